@@ -1,0 +1,9 @@
+pub mod Places
+pub mod Firsts
+pub mod Turns
+pub mod Entries
+pub mod Containing
+pub mod TriangleDiagram
+pub mod Monotone
+pub mod TriangleContent
+pub mod Keys
