@@ -1,0 +1,4 @@
+pub mod Chart
+pub mod Facets
+pub mod Orientations
+pub mod Places

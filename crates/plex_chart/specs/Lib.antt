@@ -1,0 +1,3 @@
+pub mod Chart
+pub mod Cones
+pub mod Strata
