@@ -1,0 +1,5 @@
+pub mod Fractions
+pub mod Reporting
+pub mod Plain
+pub mod Forms
+pub mod Answering

@@ -1,0 +1,146 @@
+-- What the top call has to answer: a status with a text, and the cause of each.
+use Rattle.std.specs.Prelude.{◌≡◌, ℕ, ◌+◌, ◌≤◌, nat_lt, if◌then◌else◌, List, length, Option, Some, None}
+use Rattle.cause_defs.specs.Told.{Told, untold, absent, told, IsWhereTold, IsFrontWhereTold}
+use Rattle.cause_defs.specs.Faults.{Rises}
+use Rattle.cause_defs.specs.Written.{appended, AppendsPart}
+use Rattle.text_defs.specs.Content.{Content}
+use Rattle.text_defs.specs.Triangles.{triangles, triangle_mesh}
+use Rattle.text_defs.specs.Text.{plain_text}
+use Rattle.text_defs.specs.Refusals.{most_bytes, words_refused, read_refused, too_long_refused, not_yet_refused}
+use Rattle.plex_job.specs.declared.status.Status.{Status}
+use Rattle.plex_job.specs.declared.status.Status.TheVariants.{Done, Words, Mesh, ReadFault, WriteFault, NoMemory, TooLong}
+use Rattle.plex_job.specs.Words.{accepted_name}
+
+-- ---- causes; `file` tells the bytes under a name, and `failed` that taking the file of a name has failed
+
+-- the words are not accepted
+pub record RefusesWords (words : List (List ℕ)) (text : List ℕ) : Type 0 where
+  pub not_accepted : accepted_name words ≡ None
+  pub line : text ≡ words_refused
+
+-- the mesh file could not be taken
+pub record RefusesRead (words : List (List ℕ)) (failed : List ℕ → Type 0) (text : List ℕ) : Type 0 where
+  pub name : List ℕ
+  pub accepted : accepted_name words ≡ Some name
+  pub cause : failed name
+  pub line : text ≡ read_refused name
+
+-- the mesh file has more bytes than the limit
+pub record RefusesLength (words : List (List ℕ)) (file : List ℕ → Told (List ℕ)) (text : List ℕ) : Type 0 where
+  pub name : List ℕ
+  pub accepted : accepted_name words ≡ Some name
+  pub front : List ℕ
+  pub longer : length front ≡ most_bytes + 1
+  pub taken : IsFrontWhereTold (file name) (most_bytes + 1) front
+  pub line : text ≡ too_long_refused name
+
+-- the mesh file is not one of triangles
+pub record RefusesForm (words : List (List ℕ)) (file : List ℕ → Told (List ℕ)) (text : List ℕ) : Type 0 where
+  pub name : List ℕ
+  pub accepted : accepted_name words ≡ Some name
+  pub bytes : List ℕ
+  pub short : length bytes ≤ most_bytes
+  pub taken : IsWhereTold (file name) bytes
+  pub form : triangles bytes ≡ None
+  pub line : text ≡ not_yet_refused
+
+-- the text is the diagram of the mesh that the file stands for
+pub record ShowsMesh (words : List (List ℕ)) (file : List ℕ → Told (List ℕ)) (text : List ℕ) : Type 0 where
+  pub name : List ℕ
+  pub accepted : accepted_name words ≡ Some name
+  pub bytes : List ℕ
+  pub short : length bytes ≤ most_bytes
+  pub taken : IsWhereTold (file name) bytes
+  pub content : Content
+  pub form : triangles bytes ≡ Some content
+  pub lines : text ≡ plain_text (triangle_mesh content)
+
+-- taking the file of a name has failed: the shelf's count rose, and this is the name that failed last, where told
+pub record HasFailed (faults_before faults_after : ℕ) (last_failed : Told (List ℕ)) (name : List ℕ) : Type 0 where
+  pub rose : Rises faults_before faults_after
+  pub last : IsWhereTold last_failed name
+
+-- the text of this status is this one, and has its cause
+abbrev pub IsAnswer : List (List ℕ) → (List ℕ → Told (List ℕ)) → (List ℕ → Type 0) → Status → List ℕ → Type 0
+IsAnswer words file failed Done text = ShowsMesh words file text
+IsAnswer words file failed Words text = RefusesWords words text
+IsAnswer words file failed Mesh text = RefusesForm words file text
+IsAnswer words file failed ReadFault text = RefusesRead words failed text
+IsAnswer words file failed WriteFault text = ⊥
+IsAnswer words file failed NoMemory text = ⊥
+IsAnswer words file failed TooLong text = RefusesLength words file text
+
+-- ---- the status and the text that words and files give, where the files are told
+
+abbrev pub verdict_on_content : Option Content → Status × List ℕ
+verdict_on_content None = (Mesh, not_yet_refused)
+verdict_on_content (Some content) = (Done, plain_text (triangle_mesh content))
+
+abbrev pub verdict_on_file : List ℕ → Told (List ℕ) → Told (Status × List ℕ)
+verdict_on_file name untold = untold
+verdict_on_file name absent = told (ReadFault, read_refused name)
+verdict_on_file name (told bytes) = told (if nat_lt most_bytes (length bytes) then (TooLong, too_long_refused name) else verdict_on_content (triangles bytes))
+
+abbrev pub verdict_on_name : Option (List ℕ) → (List ℕ → Told (List ℕ)) → Told (Status × List ℕ)
+verdict_on_name None file = told (Words, words_refused)
+verdict_on_name (Some name) file = verdict_on_file name (file name)
+
+abbrev pub verdict : List (List ℕ) → (List ℕ → Told (List ℕ)) → Told (Status × List ℕ)
+verdict words file = verdict_on_name (accepted_name words) file
+
+-- ---- statuses
+
+-- the fact holds where the call has answered: neither the sink nor memory has failed
+abbrev pub OnAnswer : Status → Type 0 → Type 0
+OnAnswer WriteFault P = Unit {0}
+OnAnswer NoMemory P = Unit {0}
+OnAnswer Done P = P
+OnAnswer Words P = P
+OnAnswer Mesh P = P
+OnAnswer ReadFault P = P
+OnAnswer TooLong P = P
+
+-- the fact holds where the sink has failed
+abbrev pub OnWriteFault : Status → Type 0 → Type 0
+OnWriteFault WriteFault P = P
+OnWriteFault NoMemory P = Unit {0}
+OnWriteFault Done P = Unit {0}
+OnWriteFault Words P = Unit {0}
+OnWriteFault Mesh P = Unit {0}
+OnWriteFault ReadFault P = Unit {0}
+OnWriteFault TooLong P = Unit {0}
+
+-- the fact holds where memory ran out
+abbrev pub OnNoMemory : Status → Type 0 → Type 0
+OnNoMemory NoMemory P = P
+OnNoMemory WriteFault P = Unit {0}
+OnNoMemory Done P = Unit {0}
+OnNoMemory Words P = Unit {0}
+OnNoMemory Mesh P = Unit {0}
+OnNoMemory ReadFault P = Unit {0}
+OnNoMemory TooLong P = Unit {0}
+
+-- ---- parts of answers
+
+-- a part of the text of some answer has been added, from its beginning
+pub record AddsPart (words : List (List ℕ)) (file : List ℕ → Told (List ℕ)) (failed : List ℕ → Type 0) (old new : Option (List ℕ)) : Type 0 where
+  pub status : Status
+  pub text : List ℕ
+  pub answer : IsAnswer words file failed status text
+  pub part : AppendsPart old new text
+
+-- the text of this status has been added, whole
+pub record AddsAnswer (words : List (List ℕ)) (file : List ℕ → Told (List ℕ)) (failed : List ℕ → Type 0) (status : Status) (old new : Option (List ℕ)) : Type 0 where
+  pub text : List ℕ
+  pub answer : IsAnswer words file failed status text
+  pub added : new ≡ appended old text
+
+-- the call ended with this status or, where the last flush failed, with WriteFault
+abbrev pub IsEndOf : Status → Status → Type 0
+IsEndOf WriteFault status = Unit {0}
+IsEndOf Done status = status ≡ Done
+IsEndOf Words status = status ≡ Words
+IsEndOf Mesh status = status ≡ Mesh
+IsEndOf ReadFault status = status ≡ ReadFault
+IsEndOf NoMemory status = status ≡ NoMemory
+IsEndOf TooLong status = status ≡ TooLong

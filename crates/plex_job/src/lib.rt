@@ -1,0 +1,22 @@
+//! From the words of a command to the text that it prints: the top call.
+//!
+//! [`job`] reads one mesh file of triangles and writes its oriented diagram on one rank. Its
+//! contract says, for each status, what was written and why. The diagram comes from `plex_serial`,
+//! files and output from any shelf and sink.
+#![tactic(auto)]
+
+mod counts;
+mod fault;
+mod line;
+mod outcome;
+mod point;
+mod refusal;
+mod report;
+mod status;
+mod top;
+
+pub use status::Status;
+pub use top::job;
+
+#[cfg(test)]
+mod tests;

@@ -1,0 +1,44 @@
+//! What the top call has to say.
+
+ghost use Rattle.std.specs.Prelude.{◌≡◌};
+ghost use Rattle.plex_job.specs.Report.{Reports};
+ghost use Rattle.plex_job.specs.Outcome.{outcome_status, outcome_text};
+
+use crate::fault::ReportFault;
+use crate::refusal::{Refusal, write_refusal};
+use crate::report::write_mesh;
+use crate::status::Status;
+use plex_serial::SerialMesh;
+use shelf_io::Sink;
+use std::alloc::Global;
+
+/// A refusal, or a mesh that is drawn.
+#[derive(Drop)]
+pub(crate) enum Outcome<'a> {
+    Refused(Refusal<'a>),
+    Drawn(SerialMesh),
+}
+
+impl Outcome<'_> {
+    pub(crate) fn status(&self) -> Status
+        ensures { result ≡ outcome_status self.now }
+    {
+        match self {
+            Outcome::Refused(refusal) => refusal.status(),
+            Outcome::Drawn(_) => Status::Done,
+        }
+    }
+}
+
+pub(crate) fn write_outcome<W: Sink>(
+    alloc: Global,
+    outcome: &Outcome<'_>,
+    out: &mut W,
+) -> Result<(), ReportFault>
+    ensures { Reports result (W.written out.old) (W.written out.new) (W.faults out.old) (W.faults out.new) (outcome_text outcome.now) }
+{
+    match outcome {
+        Outcome::Refused(refusal) => write_refusal(alloc, refusal, out),
+        Outcome::Drawn(mesh) => write_mesh(alloc, mesh, out),
+    }
+}

@@ -1,0 +1,125 @@
+//! From words to a text.
+
+ghost use Rattle.std.specs.Prelude.{◌≡◌, ◌≤◌, ◌⊎◌, ℕ, List, length, map, Some, None, MatchOption, IfOk, string_bytes};
+ghost use Rattle.cause_defs.specs.Told.{told};
+ghost use Rattle.cause_defs.specs.Faults.{Rises};
+ghost use Rattle.cause_defs.specs.Written.{appended, AreFlushed};
+ghost use Rattle.text_defs.specs.Triangles.{triangles};
+ghost use Rattle.plex_job.specs.declared.status.Status.{Status as Ending};
+ghost use Rattle.plex_job.specs.Words.{accepted_name, is_name};
+ghost use Rattle.plex_job.specs.Answer.{IsAnswer, HasFailed, AddsAnswer, AddsPart, verdict, verdict_on_content, OnAnswer, OnWriteFault, OnNoMemory, IsEndOf};
+ghost use Rattle.plex_job.specs.Outcome.{outcome_status, outcome_text};
+
+use crate::fault::ReportFault;
+use crate::outcome::{Outcome, write_outcome};
+use crate::refusal::Refusal;
+use crate::status::Status;
+use msh_reader::{MshFault, read_msh};
+use plex_base::{MAX_FILE_BYTES, NoMemory};
+use plex_serial::interpolate;
+use shelf_io::{Failed, Shelf, ShelfFault, Sink};
+use std::alloc::Global;
+
+/// The name of the mesh file, where the words are accepted.
+fn mesh_name(words: &[String]) -> Option<&str>
+    ensures { MatchOption result (accepted_name (map string_bytes words.now) ≡ None) (λ name. accepted_name (map string_bytes words.now) ≡ Some name.now) }
+{
+    match words {
+        [word] if is_name(word.as_bytes()) => Some(word.as_str()),
+        _ => None,
+    }
+}
+
+fn is_name(word: &[u8]) -> bool
+    ensures { result ≡ is_name word.now }
+{
+    match word {
+        [] => false,
+        [first, ..] => *first != b'-',
+    }
+}
+
+/// What the bytes of a mesh file give.
+fn draw<'a>(alloc: Global, bytes: &[u8]) -> Result<Outcome<'a>, NoMemory>
+    requires { length bytes.now ≤ MAX_FILE_BYTES }
+    ensures { IfOk result (λ outcome. verdict_on_content (triangles bytes.now) ≡ (outcome_status outcome, outcome_text outcome)) }
+{
+    match read_msh(alloc, bytes) {
+        Ok(text) => Ok(Outcome::Drawn(interpolate(alloc, &text)?)),
+        Err(MshFault::NotYet) => Ok(Outcome::Refused(Refusal::NotYet)),
+        Err(MshFault::NoMemory) => Err(NoMemory),
+    }
+}
+
+/// What the words and the shelf give.
+fn answer<'a, S: Shelf>(
+    alloc: Global,
+    words: &'a [String],
+    shelf: &mut S,
+) -> Result<Outcome<'a>, NoMemory>
+    ensures { IfOk result (λ outcome. IsAnswer (map string_bytes words.now) (S.file shelf.old)
+        (HasFailed (S.faults shelf.old) (S.faults shelf.new) (S.last_failed shelf.new)) (outcome_status outcome) (outcome_text outcome)) }
+{
+    let Some(name) = mesh_name(words) else {
+        return Ok(Outcome::Refused(Refusal::Words));
+    };
+    let mut bytes = Vec::new(alloc);
+    match shelf.take(name, MAX_FILE_BYTES, &mut bytes) {
+        Ok(()) => draw(alloc, &bytes),
+        Err(ShelfFault::Failed) => Ok(Outcome::Refused(Refusal::Read(name))),
+        Err(ShelfFault::TooLong) => Ok(Outcome::Refused(Refusal::TooLong(name))),
+        Err(ShelfFault::NoMemory) => Err(NoMemory),
+    }
+}
+
+/// Reads the mesh file that the words name, and writes the oriented diagram of its mesh: cells,
+/// vertices and edges with their cones, on one rank.
+///
+/// `words` are those after the program's name: one word, the name of a file on the shelf. Each line
+/// with its LF is one `write`, and a whole answer is flushed.
+///
+/// The diagram is that of DMPlex after interpolation; the file is one of triangles in the MSH
+/// format 2.2 of the Gmsh manual.
+pub fn job<S: Shelf, W: Sink>(alloc: Global, words: &[String], shelf: &mut S, out: &mut W) -> Status
+    // A whole answer is the text of its status and nothing else, for its cause, and is flushed.
+    ensures answer { OnAnswer result (AddsAnswer (map string_bytes words.now) (S.file shelf.old)
+        (HasFailed (S.faults shelf.old) (S.faults shelf.new) (S.last_failed shelf.new)) result (W.written out.old) (W.written out.new)) }
+    ensures flushed { OnAnswer result (AreFlushed (W.written out.new) (W.flushed out.new)) }
+
+    // Writing fails only where the sink's count rose, and has added a part of an answer.
+    ensures write_fault { OnWriteFault result (Rises (W.faults out.old) (W.faults out.new)) }
+    ensures write_part { OnWriteFault result (AddsPart (map string_bytes words.now) (S.file shelf.old)
+        (HasFailed (S.faults shelf.old) (S.faults shelf.new) (S.last_failed shelf.new)) (W.written out.old) (W.written out.new)) }
+
+    // Where memory ran out, nothing or a part of an answer is added.
+    ensures no_memory { OnNoMemory result ((W.written out.new ≡ W.written out.old) ⊎ AddsPart (map string_bytes words.now) (S.file shelf.old)
+        (HasFailed (S.faults shelf.old) (S.faults shelf.new) (S.last_failed shelf.new)) (W.written out.old) (W.written out.new)) }
+
+    // Where neither the shelf nor the sink has failed, the status is the one that words and files give, or NoMemory.
+    ensures complete { (given : Ending × List ℕ) → verdict (map string_bytes words.now) (S.file shelf.old) ≡ told given
+        → (Rises (S.faults shelf.old) (S.faults shelf.new) → ⊥) → (Rises (W.faults out.old) (W.faults out.new) → ⊥)
+        → (result ≡ given.0) ⊎ (result ≡ Status.NoMemory) }
+{
+    let Ok(outcome) = answer(alloc, words, shelf) else {
+        return Status::NoMemory;
+    };
+    match write_outcome(alloc, &outcome, out) {
+        Ok(()) => finish(&outcome, out),
+        Err(ReportFault::Write) => Status::WriteFault,
+        Err(ReportFault::NoMemory) => Status::NoMemory,
+    }
+}
+
+/// Flushes a whole answer.
+fn finish<W: Sink>(outcome: &Outcome<'_>, out: &mut W) -> Status
+    ensures status { IsEndOf result (outcome_status outcome.now) }
+    ensures written { W.written out.new ≡ W.written out.old }
+    ensures flushed { OnAnswer result (AreFlushed (W.written out.new) (W.flushed out.new)) }
+    ensures write_fault { OnWriteFault result (Rises (W.faults out.old) (W.faults out.new)) }
+    ensures never_falls { W.faults out.old ≤ W.faults out.new }
+{
+    match out.flush() {
+        Ok(()) => outcome.status(),
+        Err(Failed) => Status::WriteFault,
+    }
+}
