@@ -8,13 +8,8 @@ ghost use Rattle.msh_reader.specs.Reading.{Gives, node_views, element_views, row
 use crate::content::{FileElement, FileNode};
 use crate::fault::MshFault;
 use crate::rows::{after_version, after_word, count_row, element_row, node_row};
+use plex_base::{MAX_CELLS, MAX_NODES};
 use std::alloc::Global;
-
-/// The greatest number of nodes.
-const MOST_NODES: u32 = 500_000;
-
-/// The greatest number of elements.
-const MOST_ELEMENTS: u32 = 250_000;
 
 /// The bytes behind the part `$MeshFormat`.
 #[tactic(auto, unfolding(text_defs::specs::Triangles::format_part))]
@@ -46,7 +41,7 @@ pub fn nodes_part(alloc: Global, bytes: &[u8]) -> Result<(Vec<FileNode>, &[u8]),
     ensures { Gives (λ x. (node_views x.0.items, rows_of x.1.now)) result (nodes_part (rows_of bytes.now)) }
 {
     let rest = after_word(bytes, b"$Nodes").ok_or(MshFault::NotYet)?;
-    let (count, rest) = count_row(rest, 0, MOST_NODES).ok_or(MshFault::NotYet)?;
+    let (count, rest) = count_row(rest, 0, MAX_NODES).ok_or(MshFault::NotYet)?;
     let (nodes, rest) = node_rows(alloc, count, rest)?;
     let rest = after_word(rest, b"$EndNodes").ok_or(MshFault::NotYet)?;
     Ok((nodes, rest))
@@ -81,7 +76,7 @@ pub fn elements_part(
     ensures { Gives (λ x. (element_views x.0.items, rows_of x.1.now)) result (elements_part nodes (rows_of bytes.now)) }
 {
     let rest = after_word(bytes, b"$Elements").ok_or(MshFault::NotYet)?;
-    let (count, rest) = count_row(rest, 1, MOST_ELEMENTS).ok_or(MshFault::NotYet)?;
+    let (count, rest) = count_row(rest, 1, MAX_CELLS).ok_or(MshFault::NotYet)?;
     let (elements, rest) = element_rows(alloc, count, nodes, rest)?;
     let rest = after_word(rest, b"$EndElements").ok_or(MshFault::NotYet)?;
     Ok((elements, rest))
