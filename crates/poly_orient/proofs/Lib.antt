@@ -1,0 +1,12 @@
+pub mod Entries
+pub mod Rows
+pub mod Listed
+pub mod Turns
+pub mod Composition
+pub mod Acting
+pub mod Settling
+pub mod Relating
+pub mod Grouping
+pub mod Facing
+pub mod Searching
+pub mod Permutations

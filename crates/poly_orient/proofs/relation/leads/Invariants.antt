@@ -1,0 +1,7 @@
+use Rattle.std.proofs.Common.{◌≡◌, take}
+use Rattle.mesh_defs.specs.Lists.{picked}
+use Rattle.poly_orient.specs.Turning.{corners_turned}
+use Rattle.poly_orient.proofs.relation.leads.Given as goal
+
+abbrev pub invariant-loop-k : goal.invariant-loop-k
+invariant-loop-k l = take l.k (picked l.from (corners_turned l.p l.turn)) ≡ take l.k l.to

@@ -1,0 +1,109 @@
+//! What an orientation does to the facets of a polytope.
+
+ghost use Rattle.std.specs.Prelude.{◌≡◌, ◌<◌, ℕ, List, length};
+ghost use Rattle.mesh_defs.specs.Lists.{picked};
+ghost use Rattle.mesh_defs.specs.Tables.{corner_count, facets_of, facet_at};
+ghost use Rattle.mesh_defs.specs.Orientation.{act};
+ghost use Rattle.poly_orient.specs.Group.{IsOrientation, facet_under};
+ghost use Rattle.poly_orient.specs.Turning.{IsTurn, facet_along, place_along, begun_behind, facet_corner_turned, facet_second, facet_from};
+
+use crate::corners::corner;
+use crate::tables::{HEX_FACETS_ALONG, HEX_PLACES_ALONG, TET_FACETS_ALONG, TET_PLACES_ALONG};
+use crate::turn::{Turn, number_of, turn_of};
+use poly_tables::{Poly, facet_corner};
+
+/// The facet around which its own sense leads from corner `a` to corner `b`, by that of the edges of
+/// a polygon and the table of a solid.
+fn facet_along(p: Poly, a: usize, b: usize) -> usize
+    requires first { a < corner_count p }
+    requires second { b < corner_count p }
+    ensures { result ≡ facet_along p a b }
+{
+    match p {
+        Poly::Tet => TET_FACETS_ALONG[a][b] as usize,
+        Poly::Hex => HEX_FACETS_ALONG[a][b] as usize,
+        _ => a,
+    }
+}
+
+/// The place of corner `a` in that facet.
+fn place_along(p: Poly, a: usize, b: usize) -> usize
+    requires first { a < corner_count p }
+    requires second { b < corner_count p }
+    ensures place { result ≡ place_along p a b }
+    ensures in_range { result < 4 }
+{
+    match p {
+        Poly::Tet => TET_PLACES_ALONG[a][b] as usize,
+        Poly::Hex => HEX_PLACES_ALONG[a][b] as usize,
+        _ => 0,
+    }
+}
+
+/// The reflection of a facet that begins behind this place.
+fn begun_behind(p: Poly, place: usize) -> usize
+    requires { place < 4 }
+    ensures { result ≡ begun_behind p place }
+{
+    match p {
+        Poly::Tet => (place + 1) % 3,
+        Poly::Hex => (place + 1) % 4,
+        _ => 0,
+    }
+}
+
+/// The place of the second corner of a facet, or of the only one.
+fn facet_second(p: Poly) -> usize
+    ensures { result ≡ facet_second p }
+{
+    match p {
+        Poly::Vertex | Poly::Segment => 0,
+        _ => 1,
+    }
+}
+
+/// The corner at place j of facet k, under a turn of the whole.
+fn facet_corner_turned(p: Poly, turn: Turn, k: usize, j: usize) -> usize
+    requires turn { IsTurn p turn }
+    requires facet { k < length (facets_of p) }
+    requires place { j < length (facet_at p k).corners }
+    ensures corner { result ≡ facet_corner_turned p turn k j }
+    ensures in_range { result < corner_count p }
+{
+    corner(p, turn, facet_corner(p, k, j))
+}
+
+/// The facet that stands where two of its corners do, one behind the other, and its own turn.
+#[tactic(auto, unfolding(crate::specs::Turning::facet_from))]
+fn facet_from(p: Poly, turn: Turn, a: usize, b: usize) -> (usize, Turn)
+    requires first { a < corner_count p }
+    requires second { b < corner_count p }
+    ensures { result ≡ facet_from p turn a b }
+{
+    match (p, turn) {
+        (Poly::Vertex | Poly::Segment, _) => (a, Turn::Rotation(0)),
+        (_, Turn::Rotation(_)) => (facet_along(p, a, b), Turn::Rotation(place_along(p, a, b))),
+        (_, Turn::Reflection(_)) => {
+            let start = begun_behind(p, place_along(p, b, a));
+            (facet_along(p, b, a), Turn::Reflection(start))
+        }
+    }
+}
+
+/// Where a polytope is listed under `o`: which of its facets stands at the place of facet `k`, and
+/// the orientation under which that facet becomes what stands there.
+pub fn cone_under(p: Poly, o: i8, k: usize) -> (usize, i8)
+    requires orientation { IsOrientation p o }
+    requires facet { k < length (facets_of p) }
+
+    ensures value { result ≡ facet_under p o k }
+    ensures facet { result.0 < length (facets_of p) }
+    ensures facet_orientation { IsOrientation (facet_at p result.0).poly result.1 }
+    ensures carries { (a : List ℕ) → picked (act p o a) (facet_at p k).corners ≡ act (facet_at p result.0).poly result.1 (picked a (facet_at p result.0).corners) }
+{
+    let turn = turn_of(o);
+    let a = facet_corner_turned(p, turn, k, 0);
+    let b = facet_corner_turned(p, turn, k, facet_second(p));
+    let (facet, facet_turn) = facet_from(p, turn, a, b);
+    (facet, number_of(facet_turn))
+}
