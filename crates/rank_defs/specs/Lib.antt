@@ -1,0 +1,4 @@
+pub mod Asks
+pub mod PrintedOrder
+pub mod Rounds
+pub mod Script
