@@ -5,3 +5,8 @@ pub mod Sorting
 pub mod Replay
 pub mod Directions
 pub mod Word
+pub mod Below
+pub mod Entries
+pub mod Legal
+pub mod Scripts
+pub mod Tests

@@ -3,10 +3,14 @@
 //! Each function below does nothing: its contract is the law, and its proof is the law's.
 #![tactic(auto)]
 
-ghost use Rattle.std.specs.Prelude.{◌≡◌, ℕ, List, map};
-ghost use Rattle.rank_defs.specs.Asks.{Entry, Replays, HasOwnOrder, IsOrderOf};
+ghost use Rattle.std.specs.Prelude.{◌≡◌, ℕ, ◌<◌, true, ◌↔◌, List, map, length};
+ghost use Rattle.rank_defs.specs.declared.Tag.{Tag};
+ghost use Rattle.rank_defs.specs.declared.Ask.{Ask};
+ghost use Rattle.rank_defs.specs.Asks.{Entry, Replays, on_word, HasOwnOrder, IsOrderOf};
 ghost use Rattle.rank_defs.specs.PrintedOrder.{printed_order};
-ghost use Rattle.rank_defs.specs.Rounds.{SuitsWord};
+ghost use Rattle.rank_defs.specs.Rounds.{Round, SuitsWord, MeetsConditions, IsLegal, entries, in_order, is_legal, meets_conditions};
+ghost use Rattle.rank_defs.specs.Script.{Event, queues, walk, round_of, scripted};
+ghost use Rattle.round_laws.specs.ReplayingOrders.{HasReplayingOrders, IsPrinted, IsScheduleOf};
 
 /// Where some order of a word's entries, each rank's own in its order, replays from the word's
 /// first value to a last one, and the asks suit the word, the printed order has each rank's own in
@@ -18,4 +22,38 @@ pub fn printed_order_replays()
 /// The printed order is one, however a word's entries are mixed to begin with.
 pub fn printed_order_is_one()
     ensures { (first : ℕ) (all es : List Entry) → SuitsWord first (map (λ (e : Entry). e.ask) all) → IsOrderOf all es → printed_order first es ≡ printed_order first all }
+{}
+
+/// A round is legal exactly where its orders are the printed ones and each word has some order that
+/// replays: which steps were done first on a word is no part of it.
+pub fn replaying_orders_make_a_legal_round()
+    ensures { (r : Round) → (IsPrinted r × HasReplayingOrders r) ↔ IsLegal r }
+{}
+
+/// In a legal round the order of a word has each of its entries once, each rank's own in its order.
+pub fn legal_order_has_each_entry_once()
+    ensures { (r : Round) → IsLegal r → (w : ℕ) → w < length r.before → IsOrderOf (on_word w (entries r.asks r.got)) (in_order r w) }
+{}
+
+/// The test of a legal round answers true exactly for legal rounds, and that of the conditions
+/// exactly where they are met.
+pub fn legal_is_decided()
+    ensures legal { (r : Round) → (is_legal r ≡ true) ↔ IsLegal r }
+    ensures conditions { (before : List ℕ) (asks : List (List Ask)) → (meets_conditions before asks ≡ true) ↔ MeetsConditions before asks }
+{}
+
+/// The events of any picks have each ask once, each rank's own in its order.
+pub fn walk_is_a_schedule()
+    ensures { (picks : List ℕ) (asks : List (List Ask)) → IsScheduleOf asks (walk picks (queues asks)) }
+{}
+
+/// Where the conditions are met, the round that does its asks one after another is legal, in whatever
+/// order the ranks take their turns.
+pub fn scheduled_round_is_legal()
+    ensures { (tag : Tag) (words : List ℕ) (asks : List (List Ask)) (events : List Event) → IsScheduleOf asks events → MeetsConditions words asks → IsLegal (round_of tag words asks events) }
+{}
+
+/// Where the conditions are met, the scripted round of any picks is legal.
+pub fn scripted_round_is_legal()
+    ensures { (tag : Tag) (words : List ℕ) (asks : List (List Ask)) (picks : List ℕ) → MeetsConditions words asks → IsLegal (scripted tag words asks picks) }
 {}
