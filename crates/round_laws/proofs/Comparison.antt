@@ -30,7 +30,7 @@ pub strict_trans : {X : Type 0} (lt : X → X → Bool) → IsStrict lt → (x y
 strict_trans lt s x y z h k = ⊎_elim (λ e. e) (λ e. absurd (true≢false (sym e ∙ s.asym y z k))) (s.between x z y h)
 
 -- by a number, rising
-strict_rising : {X : Type 0} (f : X → ℕ) → IsStrict (λ x y. nat_lt (f x) (f y))
+pub strict_rising : {X : Type 0} (f : X → ℕ) → IsStrict (λ x y. nat_lt (f x) (f y))
 strict_rising f = record {
   asym = λ x y h. le-ltb (f y) (f x) (omega (arith, ltb-true (f x) (f y) h));
   between = λ x y z h. ⊎_elim (λ k. inl (lt-ltb (f x) (f y) k)) (λ k. inr (lt-ltb (f y) (f z) (omega (arith, ltb-true (f x) (f z) h)))) (cases_lt (f x) (f y));

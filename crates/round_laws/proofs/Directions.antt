@@ -22,7 +22,7 @@ changed : (e : Entry) → changes e ≡ true → after_ask e.ask e.got ≢ e.got
 changed e h same = true≢false (sym h ∙ ap not (eq-eqb (after_ask e.ask e.got) e.got same))
 
 -- a Load moves no word
-step-load : (op : Op) (value word : ℕ) → op ≡ Load → step op value word ≡ word
+pub step-load : (op : Op) (value word : ℕ) → op ≡ Load → step op value word ≡ word
 unfolding step
 step-load op value word h = ap (λ o. step o value word) h
 
@@ -96,17 +96,17 @@ sums-move first (e ∷ es) word last is fits h =
 -- ---- one Replace
 
 -- how many Replaces an ask is
-abbrev replaces : Ask → ℕ
+abbrev pub replaces : Ask → ℕ
 replaces a = cond (same_op a.op Replace) 1 0
 
-replaces-replace : (a : Ask) → a.op ≡ Replace → replaces a ≡ 1
+pub replaces-replace : (a : Ask) → a.op ≡ Replace → replaces a ≡ 1
 replaces-replace a h = ap (λ o. cond (same_op o Replace) 1 0) h
 
 -- how many Replaces entries are
-abbrev replaces_in : List Entry → ℕ
+abbrev pub replaces_in : List Entry → ℕ
 replaces_in es = count_by (λ (a : Ask). same_op a.op Replace) (map (λ (e : Entry). e.ask) es)
 
-replaces_in-cons : (e : Entry) (es : List Entry) → replaces_in (e ∷ es) ≡ replaces e.ask + replaces_in es
+pub replaces_in-cons : (e : Entry) (es : List Entry) → replaces_in (e ∷ es) ≡ replaces e.ask + replaces_in es
 replaces_in-cons e es = sum_by-cons replaces e.ask (map (λ (e : Entry). e.ask) es)
 
 -- after the only Replace all are Loads

@@ -10,3 +10,5 @@ pub mod Entries
 pub mod Legal
 pub mod Scripts
 pub mod Tests
+pub mod Permuted
+pub mod LastValues

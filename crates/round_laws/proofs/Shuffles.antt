@@ -1,5 +1,5 @@
 -- Two lists with the same entries of each rank in the same order: what does not depend on how the ranks are mixed.
-use Rattle.std.proofs.Common.{◌≡◌, ◌≢◌, ◌⊎◌, ℕ, ◌+◌, Bool, true, false, cond, ◌==◌, List, [], ◌∷◌, map, drop, sum_by, refl, sym, ap, subst, ◌∙◌, inl, inr, ⊎_elim, arith}
+use Rattle.std.proofs.Common.{◌≡◌, ◌≢◌, ◌⊎◌, ℕ, ◌+◌, Bool, true, false, cond, ◌==◌, List, [], ◌∷◌, map, drop, sum_by, count_by, refl, sym, ap, subst, ◌∙◌, inl, inr, ⊎_elim, arith}
 use Rattle.std.specs.List.{AllByRecursion}
 use Rattle.std.proofs.lemmas.Bool.{true≢false, eqb-true, eq-eqb, ne_eqb, cond-true, cond-false, cases_Bool, both_ways}
 use Rattle.std.proofs.lemmas.List.Sums.{sum_by-cons}
@@ -114,10 +114,22 @@ module _ {A : Type 0} (f : Entry → A → A) (end : A) (swaps : (d e : Entry) (
       (λ other. without-others e.rank rank fs (λ k. other (sym k)) ∙ s rank ∙ of_rank-other rank e es other) (same_rank e.rank rank)))
       ∙ sym (first_of_rank e.rank e (of_rank e.rank es) fs refl here)
 
--- a sum over all asks is the same in each order
-pub sum_by-shuffled : (g : Ask → ℕ) (es fs : List Entry) → IsOrderOf es fs → sum_by g (map (λ (e : Entry). e.ask) es) ≡ sum_by g (map (λ (e : Entry). e.ask) fs)
-sum_by-shuffled g es fs s = sum es ∙ folded-shuffled (λ e n. g e.ask + n) 0 (λ d e n apart. omega arith) es fs s ∙ sym (sum fs)
+-- a sum over all entries is the same in each order
+pub total-shuffled : (f : Entry → ℕ) (es fs : List Entry) → IsOrderOf es fs → sum_by f es ≡ sum_by f fs
+total-shuffled f es fs s = total es ∙ folded-shuffled (λ e n. f e + n) 0 (λ d e n apart. omega arith) es fs s ∙ sym (total fs)
   where
-    sum : (xs : List Entry) → sum_by g (map (λ (e : Entry). e.ask) xs) ≡ folded (λ e n. g e.ask + n) 0 xs
-    sum [] = refl
-    sum (x ∷ xs) = sum_by-cons g x.ask (map (λ (e : Entry). e.ask) xs) ∙ ap (λ n. g x.ask + n) (sum xs)
+    total : (xs : List Entry) → sum_by f xs ≡ folded (λ e n. f e + n) 0 xs
+    total [] = refl
+    total (x ∷ xs) = sum_by-cons f x xs ∙ ap (λ n. f x + n) (total xs)
+
+-- so is a count
+pub count-shuffled : (p : Entry → Bool) (es fs : List Entry) → IsOrderOf es fs → count_by p es ≡ count_by p fs
+count-shuffled p = total-shuffled (λ e. cond (p e) 1 0)
+
+-- so is a sum over all asks
+pub sum_by-shuffled : (g : Ask → ℕ) (es fs : List Entry) → IsOrderOf es fs → sum_by g (map (λ (e : Entry). e.ask) es) ≡ sum_by g (map (λ (e : Entry). e.ask) fs)
+sum_by-shuffled g es fs s = over es ∙ total-shuffled (λ e. g e.ask) es fs s ∙ sym (over fs)
+  where
+    over : (xs : List Entry) → sum_by g (map (λ (e : Entry). e.ask) xs) ≡ sum_by (λ (e : Entry). g e.ask) xs
+    over [] = refl
+    over (x ∷ xs) = sum_by-cons g x.ask (map (λ (e : Entry). e.ask) xs) ∙ ap (λ n. g x.ask + n) (over xs) ∙ sym (sum_by-cons (λ (e : Entry). g e.ask) x xs)

@@ -22,10 +22,10 @@ all_sorted P before [] h = tt
 all_sorted P before (e ∷ es) h = all_placed P before e (sorted_by before es) h.0 (all_sorted P before es h.1)
 
 module _ (before : Entry → Entry → Bool) where
-  placed-before : (e x : Entry) (xs : List Entry) → before e x ≡ true → placed before e (x ∷ xs) ≡ e ∷ x ∷ xs
+  pub placed-before : (e x : Entry) (xs : List Entry) → before e x ≡ true → placed before e (x ∷ xs) ≡ e ∷ x ∷ xs
   placed-before e x xs h = cond-true (before e x) _ _ h
 
-  placed-behind : (e x : Entry) (xs : List Entry) → before e x ≡ false → placed before e (x ∷ xs) ≡ x ∷ placed before e xs
+  pub placed-behind : (e x : Entry) (xs : List Entry) → before e x ≡ false → placed before e (x ∷ xs) ≡ x ∷ placed before e xs
   placed-behind e x xs h = cond-false (before e x) _ _ h
 
   module _ (order : IsTotal before) (strict : (d e : Entry) → d.rank ≢ e.rank → before d e ≡ true → before e d ≡ false) where

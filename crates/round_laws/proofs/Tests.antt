@@ -61,7 +61,7 @@ same-own Or = refl
 same-own And = refl
 same-own Replace = refl
 
-decides-same_op : (a b : Op) → Decides (same_op a b) (a ≡ b)
+pub decides-same_op : (a b : Op) → Decides (same_op a b) (a ≡ b)
 decides-same_op a b = (same-is a b, λ h. subst (λ o. same_op a o ≡ true) h (same-own a))
 
 decides-load : (op : Op) → Decides (is_load op) (op ≡ Load)

@@ -1,1 +1,2 @@
 pub mod ReplayingOrders
+pub mod LastValues

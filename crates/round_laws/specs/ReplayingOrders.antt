@@ -1,7 +1,8 @@
 -- What a round's words have where steps on them were done one at a time.
-use Rattle.std.specs.Prelude.{◌≡◌, ℕ, ◌<◌, ◌==◌, List, [], length, map, filter, get_or}
+use Rattle.std.specs.Prelude.{◌≡◌, ℕ, ◌+◌, ◌<◌, ◌==◌, true, List, [], length, map, filter, get_or}
 use Rattle.rank_defs.specs.declared.Ask.{Ask}
 use Rattle.rank_defs.specs.Asks.{Entry, Replays, IsOrderOf, on_word}
+use Rattle.rank_defs.specs.PrintedOrder.{kind_of, stands_before}
 use Rattle.rank_defs.specs.Rounds.{Round, MeetsConditions, entries, printed_turns}
 use Rattle.rank_defs.specs.Script.{Event, queues}
 
@@ -20,3 +21,7 @@ pub record IsPrinted (r : Round) : Type 0 where
 -- each ask once, each rank's own in its order
 abbrev pub IsScheduleOf : List (List Ask) → List Event → Type 0
 IsScheduleOf asks events = (rank : ℕ) → filter (λ (e : Event). e.rank == rank) events ≡ get_or (queues asks) rank []
+
+-- each entry of es stands before the next one, by the printed order of a word that has all these entries
+abbrev pub AreNeighboursInOrder : ℕ → List Entry → List Entry → Type 0
+AreNeighboursInOrder first all es = (k : ℕ) (d : Entry) → k + 1 < length es → stands_before (kind_of (map (λ (e : Entry). e.ask) all)) first (get_or es k d) (get_or es (k + 1) d) ≡ true

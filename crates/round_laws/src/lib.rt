@@ -3,14 +3,15 @@
 //! Each function below does nothing: its contract is the law, and its proof is the law's.
 #![tactic(auto)]
 
-ghost use Rattle.std.specs.Prelude.{◌≡◌, ℕ, ◌<◌, true, ◌↔◌, List, map, length};
+ghost use Rattle.std.specs.Prelude.{◌≡◌, ℕ, ◌<◌, true, ◌↔◌, List, map, length, get_or, IsPermutation};
 ghost use Rattle.rank_defs.specs.declared.Tag.{Tag};
 ghost use Rattle.rank_defs.specs.declared.Ask.{Ask};
 ghost use Rattle.rank_defs.specs.Asks.{Entry, Replays, on_word, HasOwnOrder, IsOrderOf};
 ghost use Rattle.rank_defs.specs.PrintedOrder.{printed_order};
-ghost use Rattle.rank_defs.specs.Rounds.{Round, SuitsWord, MeetsConditions, IsLegal, entries, in_order, is_legal, meets_conditions};
+ghost use Rattle.rank_defs.specs.Rounds.{Round, SuitsWord, MeetsConditions, IsLegal, asks_on, entries, in_order, is_legal, meets_conditions};
 ghost use Rattle.rank_defs.specs.Script.{Event, queues, walk, round_of, scripted};
-ghost use Rattle.round_laws.specs.ReplayingOrders.{HasReplayingOrders, IsPrinted, IsScheduleOf};
+ghost use Rattle.round_laws.specs.LastValues.{word_after};
+ghost use Rattle.round_laws.specs.ReplayingOrders.{AreNeighboursInOrder, HasReplayingOrders, IsPrinted, IsScheduleOf};
 
 /// Where some order of a word's entries, each rank's own in its order, replays from the word's
 /// first value to a last one, and the asks suit the word, the printed order has each rank's own in
@@ -22,6 +23,20 @@ pub fn printed_order_replays()
 /// The printed order is one, however a word's entries are mixed to begin with.
 pub fn printed_order_is_one()
     ensures { (first : ℕ) (all es : List Entry) → SuitsWord first (map (λ (e : Entry). e.ask) all) → IsOrderOf all es → printed_order first es ≡ printed_order first all }
+{}
+
+/// The printed order is found by any sort: a list of the entries on a word whose neighbours stand
+/// rightly is the printed order, be it another arrangement of them or an order of them.
+pub fn sorted_entries_are_printed()
+    ensures rearranged { (first : ℕ) (asks : List (List Ask)) (got : List (List ℕ)) (w : ℕ) (es : List Entry) → IsPermutation (on_word w (entries asks got)) es → AreNeighboursInOrder first (on_word w (entries asks got)) es → es ≡ printed_order first (on_word w (entries asks got)) }
+    ensures reordered { (first : ℕ) (asks : List (List Ask)) (got : List (List ℕ)) (w : ℕ) (es : List Entry) → IsOrderOf (on_word w (entries asks got)) es → AreNeighboursInOrder first (on_word w (entries asks got)) es → es ≡ printed_order first (on_word w (entries asks got)) }
+{}
+
+/// The last value of a word does not depend on the order of its asks: it is what they leave when they
+/// are done rank by rank.
+pub fn last_values_in_any_order()
+    ensures word { (first last : ℕ) (all es : List Entry) → SuitsWord first (map (λ (e : Entry). e.ask) all) → IsOrderOf all es → Replays first es last → last ≡ word_after first (map (λ (e : Entry). e.ask) all) }
+    ensures round { (r : Round) → IsLegal r → (w : ℕ) → w < length r.before → get_or r.after w 0 ≡ word_after (get_or r.before w 0) (asks_on w r.asks) }
 {}
 
 /// A round is legal exactly where its orders are the printed ones and each word has some order that
