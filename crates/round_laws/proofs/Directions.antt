@@ -78,7 +78,7 @@ added-sum : (a : Ask) → a.op ≡ Sum → added a ≡ a.value
 added-sum a h = ap (λ o. cond (same_op o Sum) a.value 0) h
 
 -- after an ask among Sums that fit, the word is higher by what it adds
-after-sum : (e : Entry) (word : ℕ) → IsOfKind Sum e → word + added e.ask < 2 ^ 64 → after_ask e.ask word ≡ word + added e.ask
+pub after-sum : (e : Entry) (word : ℕ) → IsOfKind Sum e → word + added e.ask < 2 ^ 64 → after_ask e.ask word ≡ word + added e.ask
 after-sum e word is fits = ⊎_elim
     (λ load. step-load e.ask.op e.ask.value word load ∙ omega (arith, added-load e.ask load))
     (λ sum. ap (λ o. step o e.ask.value word) sum ∙ step-sum e.ask.value word (omega (arith, added-sum e.ask sum)) ∙ ap (λ v. word + v) (sym (added-sum e.ask sum))) is

@@ -12,3 +12,4 @@ pub mod Scripts
 pub mod Tests
 pub mod Permuted
 pub mod LastValues
+pub mod Sums

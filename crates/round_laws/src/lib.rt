@@ -3,14 +3,15 @@
 //! Each function below does nothing: its contract is the law, and its proof is the law's.
 #![tactic(auto)]
 
-ghost use Rattle.std.specs.Prelude.{◌≡◌, ℕ, ◌<◌, true, ◌↔◌, List, map, length, get_or, IsPermutation};
+ghost use Rattle.std.specs.Prelude.{◌≡◌, ℕ, ◌<◌, ◌≤◌, true, ◌↔◌, List, map, length, get_or, count_by, IsPermutation};
+ghost use Rattle.rank_defs.specs.declared.Op.TheVariants.{Sum};
 ghost use Rattle.rank_defs.specs.declared.Tag.{Tag};
 ghost use Rattle.rank_defs.specs.declared.Ask.{Ask};
 ghost use Rattle.rank_defs.specs.Asks.{Entry, Replays, on_word, HasOwnOrder, IsOrderOf};
-ghost use Rattle.rank_defs.specs.PrintedOrder.{printed_order};
+ghost use Rattle.rank_defs.specs.PrintedOrder.{kind_of, printed_order};
 ghost use Rattle.rank_defs.specs.Rounds.{Round, SuitsWord, MeetsConditions, IsLegal, asks_on, entries, in_order, is_legal, meets_conditions};
 ghost use Rattle.rank_defs.specs.Script.{Event, queues, walk, round_of, scripted};
-ghost use Rattle.round_laws.specs.LastValues.{word_after};
+ghost use Rattle.round_laws.specs.LastValues.{word_after, took};
 ghost use Rattle.round_laws.specs.ReplayingOrders.{AreNeighboursInOrder, HasReplayingOrders, IsPrinted, IsScheduleOf};
 
 /// Where some order of a word's entries, each rank's own in its order, replays from the word's
@@ -37,6 +38,12 @@ pub fn sorted_entries_are_printed()
 pub fn last_values_in_any_order()
     ensures word { (first last : ℕ) (all es : List Entry) → SuitsWord first (map (λ (e : Entry). e.ask) all) → IsOrderOf all es → Replays first es last → last ≡ word_after first (map (λ (e : Entry). e.ask) all) }
     ensures round { (r : Round) → IsLegal r → (w : ℕ) → w < length r.before → get_or r.after w 0 ≡ word_after (get_or r.before w 0) (asks_on w r.asks) }
+{}
+
+/// In a legal round the Sums on a word take its numbers apart: each number from the first value up to
+/// the last one is taken by exactly one of them, which fetched it or a number below and added past it.
+pub fn sums_take_numbers_apart()
+    ensures { (r : Round) → IsLegal r → (w n : ℕ) → w < length r.before → kind_of (asks_on w r.asks) ≡ Sum → get_or r.before w 0 ≤ n → n < get_or r.after w 0 → count_by (took n) (on_word w (entries r.asks r.got)) ≡ 1 }
 {}
 
 /// A round is legal exactly where its orders are the printed ones and each word has some order that
