@@ -5,7 +5,7 @@ use Rattle.rank_defs.specs.declared.Op.TheVariants.{Load, Sum, Min, Max, Or, And
 use Rattle.rank_defs.specs.declared.Tag.TheVariants.{Free, Number}
 use Rattle.rank_defs.specs.declared.Ask.{Ask}
 use Rattle.rank_defs.specs.declared.Turn.{Turn}
-use Rattle.rank_defs.specs.Asks.{step}
+use Rattle.rank_defs.specs.Asks.{step, Entry, does_replay}
 use Rattle.rank_defs.specs.PrintedOrder.{fetched_before, stands_before, printed_order}
 use Rattle.rank_defs.specs.Rounds.{Round, is_legal}
 use Rattle.rank_defs.specs.Script.{scripted}
@@ -176,3 +176,31 @@ pub own_order_refused : is_legal (record { tag = Free; before = 0 ∷ []; asks =
     ∷ [] ≡ false ∷ true ∷ false ∷ false ∷ []
 unfolding is_legal printed_order stands_before fetched_before step
 own_order_refused = refl
+
+-- ---- each condition is needed: an order that replays, and a printed order that does not
+
+abbrev entry : ℕ → Op → ℕ → ℕ → Entry
+entry rank op value got = record { rank = rank; index = 0; ask = ask op value; got = got }
+
+-- the entries as they were done replay to this last value, and the printed order of the same entries by rank does not
+abbrev is_misprinted : ℕ → List Entry → List Entry → ℕ → Bool
+is_misprinted first done by_rank last = does_replay first done last && not (does_replay first (printed_order first by_rank) last)
+
+-- a Sum that does not fit; two kinds; two Replaces
+pub conditions_needed : is_misprinted 1 (entry 0 Sum 18446744073709551615 1 ∷ entry 1 Sum 5 0 ∷ []) (entry 0 Sum 18446744073709551615 1 ∷ entry 1 Sum 5 0 ∷ []) 5
+    ∷ is_misprinted 4 (entry 1 Min 2 4 ∷ entry 0 Max 9 2 ∷ []) (entry 0 Max 9 2 ∷ entry 1 Min 2 4 ∷ []) 9
+    ∷ is_misprinted 3 (entry 0 Replace 7 3 ∷ entry 1 Load 0 7 ∷ entry 2 Replace 9 7 ∷ entry 3 Load 0 9 ∷ []) (entry 0 Replace 7 3 ∷ entry 1 Load 0 7 ∷ entry 2 Replace 9 7 ∷ entry 3 Load 0 9 ∷ []) 9
+    ∷ [] ≡ true ∷ true ∷ true ∷ []
+unfolding printed_order stands_before fetched_before step
+conditions_needed = refl
+
+-- a word that is replaced by its own value: nothing changes, so the order is by ranks
+pub replaced_by_itself : shown (scripted Free (3 ∷ []) ((ask Load 0 ∷ ask Load 0 ∷ []) ∷ (ask Replace 3 ∷ []) ∷ (ask Load 0 ∷ []) ∷ []) (2 ∷ 1 ∷ [])) ≡ ((3 ∷ 3 ∷ []) ∷ (3 ∷ []) ∷ (3 ∷ []) ∷ [], (turn 0 0 ∷ turn 0 1 ∷ turn 1 0 ∷ turn 2 0 ∷ []) ∷ [])
+unfolding scripted printed_order stands_before fetched_before step
+replaced_by_itself = refl
+
+-- two words: each has its own order, and an ask on the one says nothing of the other
+pub two_words : shown (scripted Free (5 ∷ 8 ∷ []) ((on 0 Min 4 ∷ on 1 Min 9 ∷ []) ∷ (on 1 Min 7 ∷ on 0 Min 3 ∷ []) ∷ []) (1 ∷ 0 ∷ 1 ∷ []))
+    ≡ ((5 ∷ 7 ∷ []) ∷ (8 ∷ 4 ∷ []) ∷ [], (turn 0 0 ∷ turn 1 1 ∷ []) ∷ (turn 1 0 ∷ turn 0 1 ∷ []) ∷ [])
+unfolding scripted printed_order stands_before fetched_before step
+two_words = refl
