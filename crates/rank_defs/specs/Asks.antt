@@ -22,7 +22,7 @@ pub record Entry : Type 0 where
   pub ask : Ask
   pub got : ℕ
 
--- the word after the entry's ask
+-- the word after an ask
 abbrev pub after_ask : Ask → ℕ → ℕ
 after_ask ask word = step ask.op ask.value word
 

@@ -5,11 +5,12 @@ use Rattle.rank_defs.specs.declared.Op.TheVariants.{Load, Min, And, Replace}
 use Rattle.rank_defs.specs.declared.Ask.{Ask}
 use Rattle.rank_defs.specs.Asks.{Entry, after_ask}
 
+-- it is the operation that changes no word
 abbrev pub is_load : Op → Bool
 is_load Load = true
 is_load op = false
 
--- the first operation besides Load, or Load where there is no other
+-- the kind of a word with these asks: the first operation besides Load, or Load where there is no other
 abbrev pub kind_of : List Ask → Op
 kind_of [] = Load
 kind_of (a ∷ more) = if is_load a.op then kind_of more else a.op
@@ -41,6 +42,7 @@ abbrev pub placed : (Entry → Entry → Bool) → Entry → List Entry → List
 placed before e [] = e ∷ []
 placed before e (x ∷ xs) = if before e x then e ∷ x ∷ xs else x ∷ placed before e xs
 
+-- the same entries, each at its place
 abbrev pub sorted_by : (Entry → Entry → Bool) → List Entry → List Entry
 sorted_by before [] = []
 sorted_by before (e ∷ es) = placed before e (sorted_by before es)

@@ -30,6 +30,7 @@ rank_entries rank asks got = map (λ x. record { rank = rank; index = x.0; ask =
 abbrev pub entries : List (List Ask) → List (List ℕ) → List Entry
 entries asks got = flat_map (λ x. rank_entries x.0 x.1.0 x.1.1) (enumerate_from 0 (zip asks got))
 
+-- the name of an entry
 abbrev pub turn_of : Entry → Turn
 turn_of e = record { rank = e.rank; index = e.index }
 
@@ -138,14 +139,17 @@ is_in_range before asks = list_all (λ (a : Ask). nat_lt a.word (length before))
 abbrev pub has_plain_loads : List (List Ask) → Bool
 has_plain_loads asks = list_all (λ (a : Ask). not (is_load a.op) || (a.value == 0)) (all_asks asks)
 
+-- these asks suit a word with this first value
 abbrev pub suits_word : ℕ → List Ask → Bool
 suits_word first asks = has_one_kind asks && (has_one_replace asks && sums_do_fit first asks)
 
+-- words and asks meet the conditions
 abbrev pub meets_conditions : List ℕ → List (List Ask) → Bool
 meets_conditions before asks =
     has_right_ranks asks && (has_few_words before && (has_few_asks asks && (is_in_range before asks && (has_plain_loads asks
     && list_all (λ w. suits_word (get_or before w 0) (asks_on w asks)) (below (length before))))))
 
+-- no turn is of a rank that is not there, and each rank's turns are its asks on word w
 abbrev pub has_each_once : Round → ℕ → Bool
 has_each_once r w =
     list_all (λ (t : Turn). nat_lt t.rank (length r.asks)) (get_or r.order w [])
@@ -160,6 +164,7 @@ is_printed r w = pointwise same_turn (get_or r.order w []) (printed_turns r.befo
 abbrev pub does_replay_on : Round → ℕ → Bool
 does_replay_on r w = does_replay (get_or r.before w 0) (in_order r w) (get_or r.after w 0)
 
+-- the round is legal
 unfoldable pub is_legal : Round → Bool
 is_legal r =
     meets_conditions r.before r.asks

@@ -13,3 +13,4 @@ pub mod Tests
 pub mod Permuted
 pub mod LastValues
 pub mod Sums
+pub mod LoadsAndLeast

@@ -4,14 +4,15 @@
 #![tactic(auto)]
 
 ghost use Rattle.std.specs.Prelude.{◌≡◌, ℕ, ◌<◌, ◌≤◌, true, ◌↔◌, List, map, length, get_or, count_by, IsPermutation};
-ghost use Rattle.rank_defs.specs.declared.Op.TheVariants.{Sum};
+ghost use Rattle.std.specs.List.{AllByRecursion};
+ghost use Rattle.rank_defs.specs.declared.Op.TheVariants.{Load, Sum, Min};
 ghost use Rattle.rank_defs.specs.declared.Tag.{Tag};
 ghost use Rattle.rank_defs.specs.declared.Ask.{Ask};
 ghost use Rattle.rank_defs.specs.Asks.{Entry, Replays, on_word, HasOwnOrder, IsOrderOf};
 ghost use Rattle.rank_defs.specs.PrintedOrder.{kind_of, printed_order};
 ghost use Rattle.rank_defs.specs.Rounds.{Round, SuitsWord, MeetsConditions, IsLegal, asks_on, entries, in_order, is_legal, meets_conditions};
 ghost use Rattle.rank_defs.specs.Script.{Event, queues, walk, round_of, scripted};
-ghost use Rattle.round_laws.specs.LastValues.{word_after, took};
+ghost use Rattle.round_laws.specs.LastValues.{word_after, IsLeast, took};
 ghost use Rattle.round_laws.specs.ReplayingOrders.{AreNeighboursInOrder, HasReplayingOrders, IsPrinted, IsScheduleOf};
 
 /// Where some order of a word's entries, each rank's own in its order, replays from the word's
@@ -38,6 +39,17 @@ pub fn sorted_entries_are_printed()
 pub fn last_values_in_any_order()
     ensures word { (first last : ℕ) (all es : List Entry) → SuitsWord first (map (λ (e : Entry). e.ask) all) → IsOrderOf all es → Replays first es last → last ≡ word_after first (map (λ (e : Entry). e.ask) all) }
     ensures round { (r : Round) → IsLegal r → (w : ℕ) → w < length r.before → get_or r.after w 0 ≡ word_after (get_or r.before w 0) (asks_on w r.asks) }
+{}
+
+/// In a legal round each ask on a word of Loads alone fetches the first value, which stays.
+pub fn loads_fetch_the_first_value()
+    ensures { (r : Round) → IsLegal r → (w : ℕ) → w < length r.before → kind_of (asks_on w r.asks) ≡ Load → AllByRecursion (λ (e : Entry). e.got ≡ get_or r.before w 0) (on_word w (entries r.asks r.got)) × (get_or r.after w 0 ≡ get_or r.before w 0) }
+{}
+
+/// In a legal round the last value of a word of Min is the least of its first one and all that it was
+/// asked with.
+pub fn min_leaves_the_least()
+    ensures { (r : Round) → IsLegal r → (w : ℕ) → w < length r.before → kind_of (asks_on w r.asks) ≡ Min → IsLeast (get_or r.before w 0) (asks_on w r.asks) (get_or r.after w 0) }
 {}
 
 /// In a legal round the Sums on a word take its numbers apart: each number from the first value up to
