@@ -1,1 +1,4 @@
-pub mod RoundRows
+pub mod Meshes
+pub mod ForestRows
+pub mod ClosureRows
+pub mod RankRows
