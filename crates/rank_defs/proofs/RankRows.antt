@@ -1,10 +1,11 @@
 -- Worked rows: two and three triangles over ranks.
-use Rattle.std.proofs.Common.{◌≡◌, ℕ, ◌+◌, ◌*◌, ◌^◌, List, [], ◌∷◌, map, length, get_or, ℤ, pos, negsuc, refl}
+use Rattle.std.proofs.Common.{◌≡◌, ◌==◌, ℕ, List, [], ◌∷◌, map, length, flat_map, count_by, ℤ, pos, negsuc, refl}
+use Rattle.mesh_defs.specs.Mesh.{Mesh, Cell}
 use Rattle.mesh_defs.specs.declared.Poly.TheVariants.{Vertex, Segment, Triangle}
 use Rattle.mesh_defs.specs.declared.ConeEntry.{ConeEntry}
 use Rattle.mesh_defs.specs.Lists.{sorted, below}
 use Rattle.mesh_defs.specs.Orientation.{rotations, reflections, orientations, corners_under, act, relative}
-use Rattle.mesh_defs.specs.Points.{sights_of, first_sight, key, arrangement, contains}
+use Rattle.mesh_defs.specs.Points.{Sight, point_of, sights_of, first_sight, key, arrangement, contains}
 use Rattle.mesh_defs.specs.Diagram.{Covering, Diagram, stratum, strata, chart, seen_under, entry, cone, diagram}
 use Rattle.rank_defs.specs.Forest.{Forest, leaf}
 use Rattle.rank_defs.specs.Labels.{mesh_label}
@@ -12,7 +13,7 @@ use Rattle.rank_defs.specs.Fields.{row_values, data_words, dof_words, fields}
 use Rattle.rank_defs.specs.Ranks.{assigned, layer, held_cells, held, ranks_at, owner, is_shared, owned, own_key}
 use Rattle.rank_defs.specs.Spread.{charts, point_forest, migration_forest, trace, LocalMesh, PlainDist, local_mesh, plain_dist, ScatterPart, PlainScatter, scatter_part, plain_scatter, own_chart, SharedPart, PlainShared, shared_part, plain_shared}
 use Rattle.rank_defs.specs.Home.{by_vertices, shared_points, home_points, home_words, home_offers, number}
-use Rattle.rank_defs.proofs.Meshes.{two_triangles, two_triangles_at, three_triangles, unit}
+use Rattle.rank_defs.proofs.Meshes.{two_triangles, two_triangles_at, twisted_hexahedra, three_triangles}
 
 abbrev at : ℕ → ℤ → ConeEntry
 at p o = record { point = p; o = o }
@@ -25,6 +26,9 @@ edge a b = record { poly = Segment; covers = at a (pos 0) ∷ at b (pos 0) ∷ [
 
 abbrev triangle : List ConeEntry → Covering
 triangle covers = record { poly = Triangle; covers = covers }
+
+abbrev cell : List ℕ → Cell
+cell vertices = record { poly = Triangle; vertices = vertices }
 
 -- a diagram of one triangle
 abbrev of_one : List Covering → Diagram
@@ -50,3 +54,166 @@ two_triangles_two_ranks : plain_dist two_triangles [] (0 ∷ 1 ∷ []) 2 0
     }
 unfolding sorted rotations reflections orientations corners_under act relative sights_of first_sight key arrangement contains stratum strata chart seen_under entry cone diagram mesh_label fields assigned held_cells held ranks_at owner charts point_forest local_mesh plain_dist
 two_triangles_two_ranks = refl
+
+-- the home round of an assignment to n ranks: first values, and what each rank offers
+abbrev home : Mesh → List ℕ → ℕ → List ℕ × List (List (ℕ × ℕ))
+home m a n = let points = home_points m a n in (home_words m a points, map (home_offers m a points) (below n))
+
+-- rank 1 offers the key 74 for the edge e9, which has the key 9 from its owner
+home_of_two_ranks : home two_triangles (0 ∷ 1 ∷ []) 2 ≡ (9 ∷ [], [] ∷ ((0, 74) ∷ []) ∷ [])
+unfolding sorted sights_of contains stratum strata assigned ranks_at owner is_shared own_key by_vertices shared_points home_points home_words home_offers
+home_of_two_ranks = refl
+
+-- how many points each rank owns, which is what it asks for in the number round
+abbrev owned_counts : Mesh → List ℕ → ℕ → List ℕ
+owned_counts m a n = map (λ r. length (owned m a r)) (below n)
+
+owned_on_two_ranks : owned_counts two_triangles (0 ∷ 1 ∷ []) 2 ≡ 7 ∷ 4 ∷ []
+unfolding sorted sights_of contains stratum strata chart assigned held_cells held ranks_at owner owned
+owned_on_two_ranks = refl
+
+-- ---- the same over three ranks, of which rank 1 has no cell
+
+-- keys of the held points, and their owners
+abbrev key_and_owner : Mesh → List ℕ → List Sight → List (ℕ × ℕ)
+key_and_owner m a points = map (λ s. (s.key, owner m a (point_of s))) points
+
+idle_rank : map (key_and_owner two_triangles (0 ∷ 2 ∷ [])) (charts two_triangles (0 ∷ 2 ∷ []) 3 0)
+    ≡ ((0, 0) ∷ (0, 0) ∷ (1, 0) ∷ (2, 0) ∷ (8, 0) ∷ (9, 0) ∷ (10, 0) ∷ [])
+    ∷ []
+    ∷ ((64, 2) ∷ (1, 0) ∷ (2, 0) ∷ (3, 2) ∷ (9, 0) ∷ (72, 2) ∷ (73, 2) ∷ []) ∷ []
+unfolding sorted sights_of contains stratum strata chart assigned held_cells held ranks_at owner charts
+idle_rank = refl
+
+forest_with_an_idle_rank : point_forest two_triangles (0 ∷ 2 ∷ []) (charts two_triangles (0 ∷ 2 ∷ []) 3 0)
+    ≡ record { roots = 7 ∷ 0 ∷ 7 ∷ []; leaves = [] ∷ [] ∷ (leaf 1 (0, 2) ∷ leaf 2 (0, 3) ∷ leaf 4 (0, 5) ∷ []) ∷ [] }
+unfolding sorted sights_of contains stratum strata chart assigned held_cells held ranks_at owner charts point_forest
+forest_with_an_idle_rank = refl
+
+home_with_an_idle_rank : home two_triangles (0 ∷ 2 ∷ []) 3 ≡ (9 ∷ [], [] ∷ [] ∷ ((0, 74) ∷ []) ∷ [])
+unfolding sorted sights_of contains stratum strata assigned ranks_at owner is_shared own_key by_vertices shared_points home_points home_words home_offers
+home_with_an_idle_rank = refl
+
+owned_with_an_idle_rank : owned_counts two_triangles (0 ∷ 2 ∷ []) 3 ≡ 7 ∷ 0 ∷ 4 ∷ []
+unfolding sorted sights_of contains stratum strata chart assigned held_cells held ranks_at owner owned
+owned_with_an_idle_rank = refl
+
+-- ---- the key of the shared edge comes from the other rank
+
+-- the owner's own least key of the edge is 74; rank 1 has it under 9, which is its key on both
+key_from_the_other_rank : home two_triangles (1 ∷ 0 ∷ []) 2 ≡ (74 ∷ [], [] ∷ ((0, 9) ∷ []) ∷ [])
+unfolding sorted sights_of contains stratum strata assigned ranks_at owner is_shared own_key by_vertices shared_points home_points home_words home_offers
+key_from_the_other_rank = refl
+
+-- the owned points of the ranks one behind the other, with their numbers under the bases 0 and 7 and their cones by number
+abbrev numbered : Mesh → List ℕ → List ℕ → List ℕ → List (ℕ × (ℕ × List ConeEntry))
+numbered m a ranks bases = flat_map (λ r. map (λ s. (number m a bases (point_of s), (s.key, cone m (number m a bases) s))) (owned m a r)) ranks
+
+numbers_with_the_key_from_the_other_rank : numbered two_triangles (1 ∷ 0 ∷ []) (0 ∷ 1 ∷ []) (0 ∷ 7 ∷ [])
+    ≡ (0, (64, at 5 (pos 0) ∷ at 6 (pos 0) ∷ at 4 (negsuc 0) ∷ []))
+    ∷ (1, (1, []))
+    ∷ (2, (2, []))
+    ∷ (3, (3, []))
+    ∷ (4, (9, at 1 (pos 0) ∷ at 2 (pos 0) ∷ []))
+    ∷ (5, (72, at 1 (pos 0) ∷ at 3 (pos 0) ∷ []))
+    ∷ (6, (73, at 3 (pos 0) ∷ at 2 (pos 0) ∷ []))
+    ∷ (7, (0, at 9 (pos 0) ∷ at 4 (pos 0) ∷ at 10 (pos 0) ∷ []))
+    ∷ (8, (0, []))
+    ∷ (9, (8, at 8 (pos 0) ∷ at 1 (pos 0) ∷ []))
+    ∷ (10, (10, at 2 (pos 0) ∷ at 8 (pos 0) ∷ [])) ∷ []
+unfolding sorted rotations reflections orientations corners_under act relative sights_of first_sight key arrangement contains stratum strata chart seen_under entry cone assigned held_cells held ranks_at owner owned number
+numbers_with_the_key_from_the_other_rank = refl
+
+forest_with_the_key_from_the_other_rank : point_forest two_triangles (1 ∷ 0 ∷ []) (charts two_triangles (1 ∷ 0 ∷ []) 2 0)
+    ≡ record { roots = 7 ∷ 7 ∷ []; leaves = [] ∷ (leaf 2 (0, 1) ∷ leaf 3 (0, 2) ∷ leaf 5 (0, 4) ∷ []) ∷ [] }
+unfolding sorted sights_of contains stratum strata chart assigned held_cells held ranks_at owner charts point_forest
+forest_with_the_key_from_the_other_rank = refl
+
+-- ---- two hexahedra whose shared face is twisted: its four edges are shared too, but two of them are diagonals to the other cell
+
+twisted_home : home twisted_hexahedra (0 ∷ 1 ∷ []) 2 ≡ (2 ∷ 15 ∷ 13 ∷ [], [] ∷ ((0, 65) ∷ (1, 75) ∷ (2, 73) ∷ []) ∷ [])
+unfolding sorted sights_of contains stratum strata assigned ranks_at owner is_shared own_key by_vertices shared_points home_points home_words home_offers
+twisted_home = refl
+
+-- ---- redistribution of two triangles: each goes to the other rank
+
+abbrev before_it : List ℕ
+before_it = 0 ∷ 1 ∷ []
+
+abbrev after_it : List ℕ
+after_it = 1 ∷ 0 ∷ []
+
+two_triangles_redistributed : migration_forest two_triangles before_it after_it 2
+    ≡ record {
+      roots = 7 ∷ 7 ∷ [];
+      leaves =
+          (leaf 0 (1, 0) ∷ leaf 1 (0, 2) ∷ leaf 2 (0, 3) ∷ leaf 3 (1, 3) ∷ leaf 4 (0, 5) ∷ leaf 5 (1, 5) ∷ leaf 6 (1, 6) ∷ [])
+          ∷ (leaf 0 (0, 0) ∷ leaf 1 (0, 1) ∷ leaf 4 (0, 4) ∷ leaf 6 (0, 6) ∷ []) ∷ [];
+    }
+unfolding sorted sights_of contains stratum strata chart assigned held_cells held ranks_at owner charts migration_forest
+two_triangles_redistributed = refl
+
+traces_of_two_triangles : flat_map (λ r. map (λ s. trace two_triangles before_it 2 (point_of s)) (owned two_triangles after_it r)) (0 ∷ 1 ∷ [])
+    ≡ (1, 0) ∷ (0, 2) ∷ (0, 3) ∷ (1, 3) ∷ (0, 5) ∷ (1, 5) ∷ (1, 6) ∷ (0, 0) ∷ (0, 1) ∷ (0, 4) ∷ (0, 6) ∷ []
+unfolding sorted sights_of contains stratum strata chart assigned held_cells held ranks_at owner owned charts trace
+traces_of_two_triangles = refl
+
+-- ---- a layer of overlap, and none again
+
+-- of a rank's held points, how many each rank owns
+abbrev owned_by : Mesh → List ℕ → ℕ → ℕ → List (List ℕ)
+owned_by m a n k = map (λ r. map (λ o. count_by (λ s. owner m a (point_of s) == o) (held m a r k)) (below n)) (below n)
+
+-- with one layer both ranks hold all points
+two_triangles_widened : (owned_by two_triangles before_it 2 1 ≡ (7 ∷ 4 ∷ []) ∷ (7 ∷ 4 ∷ []) ∷ []) × (owned_by two_triangles before_it 2 0 ≡ (7 ∷ 0 ∷ []) ∷ (3 ∷ 4 ∷ []) ∷ [])
+unfolding sorted sights_of contains stratum strata chart assigned layer held_cells held ranks_at owner
+two_triangles_widened = (refl, refl)
+
+-- ---- three triangles: shared points without keys
+
+-- Rank 1 has the cells 1 and 2. It holds both ends of the edge between the vertices 0 and 1, and not the edge.
+three_triangles_scattered : plain_scatter three_triangles [] (0 ∷ 1 ∷ 1 ∷ []) 2
+    ≡ record {
+      whole = 3;
+      sections = [];
+      dofs = [];
+      parts =
+          record { cells = (0, cell (0 ∷ 1 ∷ 2 ∷ [])) ∷ []; vertices = 0 ∷ 1 ∷ 2 ∷ []; owners = 0 ∷ 0 ∷ 0 ∷ []; at = [] ∷ [] ∷ [] ∷ []; marks = []; rows = [] }
+          ∷ record {
+            cells = (1, cell (0 ∷ 2 ∷ 3 ∷ [])) ∷ (2, cell (2 ∷ 1 ∷ 4 ∷ [])) ∷ [];
+            vertices = 0 ∷ 1 ∷ 2 ∷ 3 ∷ 4 ∷ [];
+            owners = 0 ∷ 0 ∷ 0 ∷ 1 ∷ 1 ∷ [];
+            at = [] ∷ [] ∷ [] ∷ [] ∷ [] ∷ [];
+            marks = [];
+            rows = [];
+          } ∷ [];
+    }
+unfolding sorted sights_of contains stratum strata chart assigned ranks_at owner scatter_part plain_scatter
+three_triangles_scattered = refl
+
+three_triangles_shared : plain_shared three_triangles [] (0 ∷ 1 ∷ 1 ∷ []) 2
+    ≡ record {
+      whole = 3;
+      sections = 0;
+      forest = record { roots = 7 ∷ 13 ∷ []; leaves = [] ∷ (leaf 2 (0, 1) ∷ leaf 3 (0, 2) ∷ leaf 4 (0, 3) ∷ leaf 7 (0, 6) ∷ leaf 10 (0, 5) ∷ []) ∷ [] };
+      parts =
+          record {
+            cells = (0, cell (0 ∷ 1 ∷ 2 ∷ [])) ∷ [];
+            vertices = 0 ∷ 1 ∷ 2 ∷ [];
+            at = [] ∷ [] ∷ [] ∷ [];
+            sets = (0 ∷ 1 ∷ 2 ∷ []) ∷ (0 ∷ []) ∷ (1 ∷ []) ∷ (2 ∷ []) ∷ (0 ∷ 1 ∷ []) ∷ (1 ∷ 2 ∷ []) ∷ (0 ∷ 2 ∷ []) ∷ [];
+            labels = [] ∷ [] ∷ [] ∷ [] ∷ [];
+            fields = [];
+          }
+          ∷ record {
+            cells = (1, cell (0 ∷ 2 ∷ 3 ∷ [])) ∷ (2, cell (2 ∷ 1 ∷ 4 ∷ [])) ∷ [];
+            vertices = 0 ∷ 1 ∷ 2 ∷ 3 ∷ 4 ∷ [];
+            at = [] ∷ [] ∷ [] ∷ [] ∷ [] ∷ [];
+            sets = (0 ∷ 2 ∷ 3 ∷ []) ∷ (1 ∷ 2 ∷ 4 ∷ []) ∷ (0 ∷ []) ∷ (1 ∷ []) ∷ (2 ∷ []) ∷ (3 ∷ []) ∷ (4 ∷ [])
+                ∷ (0 ∷ 2 ∷ []) ∷ (2 ∷ 3 ∷ []) ∷ (0 ∷ 3 ∷ []) ∷ (1 ∷ 2 ∷ []) ∷ (1 ∷ 4 ∷ []) ∷ (2 ∷ 4 ∷ []) ∷ [];
+            labels = [] ∷ [] ∷ [] ∷ [] ∷ [];
+            fields = [];
+          } ∷ [];
+    }
+unfolding sorted sights_of contains stratum strata chart mesh_label fields assigned ranks_at owner point_forest own_chart shared_part plain_shared
+three_triangles_shared = refl
