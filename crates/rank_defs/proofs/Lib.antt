@@ -1,6 +1,7 @@
+pub mod RoundRows
 pub mod Meshes
 pub mod ForestRows
 pub mod ClosureRows
+pub mod FieldRows
 pub mod RankRows
 pub mod StripRows
-pub mod FieldRows

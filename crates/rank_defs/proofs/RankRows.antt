@@ -7,12 +7,20 @@ use Rattle.mesh_defs.specs.Lists.{sorted, below}
 use Rattle.mesh_defs.specs.Orientation.{rotations, reflections, orientations, corners_under, act, relative}
 use Rattle.mesh_defs.specs.Points.{Sight, point_of, sights_of, first_sight, key, arrangement, contains}
 use Rattle.mesh_defs.specs.Diagram.{Covering, Diagram, stratum, strata, chart, seen_under, entry, cone, diagram}
+use Rattle.rank_defs.specs.declared.Op.TheVariants.{Sum, Min}
+use Rattle.rank_defs.specs.declared.Tag.TheVariants.{Home, Number}
+use Rattle.rank_defs.specs.declared.Ask.{Ask}
+use Rattle.rank_defs.specs.declared.Turn.{Turn}
+use Rattle.rank_defs.specs.Asks.{step}
+use Rattle.rank_defs.specs.PrintedOrder.{fetched_before, stands_before, printed_order}
+use Rattle.rank_defs.specs.Rounds.{Round}
+use Rattle.rank_defs.specs.Script.{scripted}
 use Rattle.rank_defs.specs.Forest.{Forest, leaf}
 use Rattle.rank_defs.specs.Labels.{mesh_label}
 use Rattle.rank_defs.specs.Fields.{row_values, data_words, dof_words, fields}
 use Rattle.rank_defs.specs.Ranks.{assigned, layer, held_cells, held, ranks_at, owner, is_shared, owned, own_key}
 use Rattle.rank_defs.specs.Spread.{charts, point_forest, migration_forest, trace, LocalMesh, PlainDist, local_mesh, plain_dist, ScatterPart, PlainScatter, scatter_part, plain_scatter, own_chart, SharedPart, PlainShared, shared_part, plain_shared}
-use Rattle.rank_defs.specs.Home.{by_vertices, shared_points, home_points, home_words, home_offers, number}
+use Rattle.rank_defs.specs.Home.{by_vertices, shared_points, home_points, home_words, home_asks, number_asks, bases_of, number}
 use Rattle.rank_defs.proofs.Meshes.{two_triangles, two_triangles_at, twisted_hexahedra, three_triangles}
 
 abbrev at : ℕ → ℤ → ConeEntry
@@ -55,22 +63,32 @@ two_triangles_two_ranks : plain_dist two_triangles [] (0 ∷ 1 ∷ []) 2 0
 unfolding sorted rotations reflections orientations corners_under act relative sights_of first_sight key arrangement contains stratum strata chart seen_under entry cone diagram mesh_label fields assigned held_cells held ranks_at owner charts point_forest local_mesh plain_dist
 two_triangles_two_ranks = refl
 
--- the home round of an assignment to n ranks: first values, and what each rank offers
-abbrev home : Mesh → List ℕ → ℕ → List ℕ × List (List (ℕ × ℕ))
-home m a n = let points = home_points m a n in (home_words m a points, map (home_offers m a points) (below n))
+-- the home round of an assignment to n ranks, where one rank asks after the other
+abbrev home : Mesh → List ℕ → ℕ → Round
+home m a n = let points = home_points m a n in scripted Home (home_words m a points) (map (home_asks m a points) (below n)) []
 
--- rank 1 offers the key 74 for the edge e9, which has the key 9 from its owner
-home_of_two_ranks : home two_triangles (0 ∷ 1 ∷ []) 2 ≡ (9 ∷ [], [] ∷ ((0, 74) ∷ []) ∷ [])
-unfolding sorted sights_of contains stratum strata assigned ranks_at owner is_shared own_key by_vertices shared_points home_points home_words home_offers
+-- the number round of an assignment to n ranks, where one rank asks after the other
+abbrev numbers : Mesh → List ℕ → ℕ → Round
+numbers m a n = scripted Number (0 ∷ []) (number_asks m a n) []
+
+abbrev min_with : ℕ → ℕ → Ask
+min_with word value = record { word = word; op = Min; value = value }
+
+abbrev add : ℕ → List Ask
+add value = record { word = 0; op = Sum; value = value } ∷ []
+
+abbrev turn : ℕ → ℕ → Turn
+turn rank index = record { rank = rank; index = index }
+
+-- rank 1 asks with 74 for the shared edge, which has the key 9 from its owner
+home_of_two_ranks : home two_triangles (0 ∷ 1 ∷ []) 2 ≡ record { tag = Home; before = 9 ∷ []; asks = [] ∷ (min_with 0 74 ∷ []) ∷ []; got = [] ∷ (9 ∷ []) ∷ []; after = 9 ∷ []; order = (turn 1 0 ∷ []) ∷ [] }
+unfolding sorted sights_of contains stratum strata assigned ranks_at owner is_shared own_key by_vertices shared_points home_points home_words home_asks scripted printed_order stands_before fetched_before step
 home_of_two_ranks = refl
 
--- how many points each rank owns, which is what it asks for in the number round
-abbrev owned_counts : Mesh → List ℕ → ℕ → List ℕ
-owned_counts m a n = map (λ r. length (owned m a r)) (below n)
-
-owned_on_two_ranks : owned_counts two_triangles (0 ∷ 1 ∷ []) 2 ≡ 7 ∷ 4 ∷ []
-unfolding sorted sights_of contains stratum strata chart assigned held_cells held ranks_at owner owned
-owned_on_two_ranks = refl
+-- rank 0 owns 7 points and rank 1 four, so that their bases are 0 and 7
+numbers_of_two_ranks : numbers two_triangles (0 ∷ 1 ∷ []) 2 ≡ record { tag = Number; before = 0 ∷ []; asks = add 7 ∷ add 4 ∷ []; got = (0 ∷ []) ∷ (7 ∷ []) ∷ []; after = 11 ∷ []; order = (turn 0 0 ∷ turn 1 0 ∷ []) ∷ [] }
+unfolding sorted sights_of contains stratum strata chart assigned held_cells held ranks_at owner owned number_asks scripted printed_order stands_before fetched_before step
+numbers_of_two_ranks = refl
 
 -- ---- the same over three ranks, of which rank 1 has no cell
 
@@ -90,26 +108,34 @@ forest_with_an_idle_rank : point_forest two_triangles (0 ∷ 2 ∷ []) (charts t
 unfolding sorted sights_of contains stratum strata chart assigned held_cells held ranks_at owner charts point_forest
 forest_with_an_idle_rank = refl
 
-home_with_an_idle_rank : home two_triangles (0 ∷ 2 ∷ []) 3 ≡ (9 ∷ [], [] ∷ [] ∷ ((0, 74) ∷ []) ∷ [])
-unfolding sorted sights_of contains stratum strata assigned ranks_at owner is_shared own_key by_vertices shared_points home_points home_words home_offers
+home_with_an_idle_rank : home two_triangles (0 ∷ 2 ∷ []) 3
+    ≡ record { tag = Home; before = 9 ∷ []; asks = [] ∷ [] ∷ (min_with 0 74 ∷ []) ∷ []; got = [] ∷ [] ∷ (9 ∷ []) ∷ []; after = 9 ∷ []; order = (turn 2 0 ∷ []) ∷ [] }
+unfolding sorted sights_of contains stratum strata assigned ranks_at owner is_shared own_key by_vertices shared_points home_points home_words home_asks scripted printed_order stands_before fetched_before step
 home_with_an_idle_rank = refl
 
-owned_with_an_idle_rank : owned_counts two_triangles (0 ∷ 2 ∷ []) 3 ≡ 7 ∷ 0 ∷ 4 ∷ []
-unfolding sorted sights_of contains stratum strata chart assigned held_cells held ranks_at owner owned
-owned_with_an_idle_rank = refl
+-- the idle rank draws the base 7 and adds nothing
+numbers_with_an_idle_rank : numbers two_triangles (0 ∷ 2 ∷ []) 3
+    ≡ record { tag = Number; before = 0 ∷ []; asks = add 7 ∷ add 0 ∷ add 4 ∷ []; got = (0 ∷ []) ∷ (7 ∷ []) ∷ (7 ∷ []) ∷ []; after = 11 ∷ []; order = (turn 0 0 ∷ turn 1 0 ∷ turn 2 0 ∷ []) ∷ [] }
+unfolding sorted sights_of contains stratum strata chart assigned held_cells held ranks_at owner owned number_asks scripted printed_order stands_before fetched_before step
+numbers_with_an_idle_rank = refl
 
 -- ---- the key of the shared edge comes from the other rank
 
 -- the owner's own least key of the edge is 74; rank 1 has it under 9, which is its key on both
-key_from_the_other_rank : home two_triangles (1 ∷ 0 ∷ []) 2 ≡ (74 ∷ [], [] ∷ ((0, 9) ∷ []) ∷ [])
-unfolding sorted sights_of contains stratum strata assigned ranks_at owner is_shared own_key by_vertices shared_points home_points home_words home_offers
+key_from_the_other_rank : home two_triangles (1 ∷ 0 ∷ []) 2 ≡ record { tag = Home; before = 74 ∷ []; asks = [] ∷ (min_with 0 9 ∷ []) ∷ []; got = [] ∷ (74 ∷ []) ∷ []; after = 9 ∷ []; order = (turn 1 0 ∷ []) ∷ [] }
+unfolding sorted sights_of contains stratum strata assigned ranks_at owner is_shared own_key by_vertices shared_points home_points home_words home_asks scripted printed_order stands_before fetched_before step
 key_from_the_other_rank = refl
 
--- the owned points of the ranks one behind the other, with their numbers under the bases 0 and 7 and their cones by number
+numbers_with_the_key_from_the_other_rank : numbers two_triangles (1 ∷ 0 ∷ []) 2
+    ≡ record { tag = Number; before = 0 ∷ []; asks = add 7 ∷ add 4 ∷ []; got = (0 ∷ []) ∷ (7 ∷ []) ∷ []; after = 11 ∷ []; order = (turn 0 0 ∷ turn 1 0 ∷ []) ∷ [] }
+unfolding sorted sights_of contains stratum strata chart assigned held_cells held ranks_at owner owned number_asks scripted printed_order stands_before fetched_before step
+numbers_with_the_key_from_the_other_rank = refl
+
+-- the owned points of the ranks one behind the other, with their numbers under these bases, their keys, and their cones by number
 abbrev numbered : Mesh → List ℕ → List ℕ → List ℕ → List (ℕ × (ℕ × List ConeEntry))
 numbered m a ranks bases = flat_map (λ r. map (λ s. (number m a bases (point_of s), (s.key, cone m (number m a bases) s))) (owned m a r)) ranks
 
-numbers_with_the_key_from_the_other_rank : numbered two_triangles (1 ∷ 0 ∷ []) (0 ∷ 1 ∷ []) (0 ∷ 7 ∷ [])
+points_with_the_key_from_the_other_rank : numbered two_triangles (1 ∷ 0 ∷ []) (0 ∷ 1 ∷ []) (bases_of (numbers two_triangles (1 ∷ 0 ∷ []) 2))
     ≡ (0, (64, at 5 (pos 0) ∷ at 6 (pos 0) ∷ at 4 (negsuc 0) ∷ []))
     ∷ (1, (1, []))
     ∷ (2, (2, []))
@@ -121,18 +147,27 @@ numbers_with_the_key_from_the_other_rank : numbered two_triangles (1 ∷ 0 ∷ [
     ∷ (8, (0, []))
     ∷ (9, (8, at 8 (pos 0) ∷ at 1 (pos 0) ∷ []))
     ∷ (10, (10, at 2 (pos 0) ∷ at 8 (pos 0) ∷ [])) ∷ []
-unfolding sorted rotations reflections orientations corners_under act relative sights_of first_sight key arrangement contains stratum strata chart seen_under entry cone assigned held_cells held ranks_at owner owned number
-numbers_with_the_key_from_the_other_rank = refl
+unfolding sorted rotations reflections orientations corners_under act relative sights_of first_sight key arrangement contains stratum strata chart seen_under entry cone assigned held_cells held ranks_at owner owned number number_asks scripted printed_order stands_before fetched_before step
+points_with_the_key_from_the_other_rank = refl
 
 forest_with_the_key_from_the_other_rank : point_forest two_triangles (1 ∷ 0 ∷ []) (charts two_triangles (1 ∷ 0 ∷ []) 2 0)
     ≡ record { roots = 7 ∷ 7 ∷ []; leaves = [] ∷ (leaf 2 (0, 1) ∷ leaf 3 (0, 2) ∷ leaf 5 (0, 4) ∷ []) ∷ [] }
 unfolding sorted sights_of contains stratum strata chart assigned held_cells held ranks_at owner charts point_forest
 forest_with_the_key_from_the_other_rank = refl
 
--- ---- two hexahedra whose shared face is twisted: its four edges are shared too, but two of them are diagonals to the other cell
+-- ---- two hexahedra with a twisted face between them
 
-twisted_home : home twisted_hexahedra (0 ∷ 1 ∷ []) 2 ≡ (2 ∷ 15 ∷ 13 ∷ [], [] ∷ ((0, 65) ∷ (1, 75) ∷ (2, 73) ∷ []) ∷ [])
-unfolding sorted sights_of contains stratum strata assigned ranks_at owner is_shared own_key by_vertices shared_points home_points home_words home_offers
+-- they share the face and two of its edges; where one has its other two edges, the other has diagonals
+twisted_home : home twisted_hexahedra (0 ∷ 1 ∷ []) 2
+    ≡ record {
+      tag = Home;
+      before = 2 ∷ 15 ∷ 13 ∷ [];
+      asks = [] ∷ (min_with 0 65 ∷ min_with 1 75 ∷ min_with 2 73 ∷ []) ∷ [];
+      got = [] ∷ (2 ∷ 15 ∷ 13 ∷ []) ∷ [];
+      after = 2 ∷ 15 ∷ 13 ∷ [];
+      order = (turn 1 0 ∷ []) ∷ (turn 1 1 ∷ []) ∷ (turn 1 2 ∷ []) ∷ [];
+    }
+unfolding sorted sights_of contains stratum strata assigned ranks_at owner is_shared own_key by_vertices shared_points home_points home_words home_asks scripted printed_order stands_before fetched_before step
 twisted_home = refl
 
 -- ---- redistribution of two triangles: each goes to the other rank

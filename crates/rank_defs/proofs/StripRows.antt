@@ -4,6 +4,11 @@ use Rattle.mesh_defs.specs.Lists.{sorted, below}
 use Rattle.mesh_defs.specs.Mesh.{Mesh}
 use Rattle.mesh_defs.specs.Points.{point_of, sights_of, contains}
 use Rattle.mesh_defs.specs.Diagram.{stratum, strata, chart, place_in}
+use Rattle.rank_defs.specs.declared.Tag.TheVariants.{Number}
+use Rattle.rank_defs.specs.Asks.{step}
+use Rattle.rank_defs.specs.PrintedOrder.{fetched_before, stands_before, printed_order}
+use Rattle.rank_defs.specs.Script.{scripted}
+use Rattle.rank_defs.specs.Home.{number_asks, bases_of}
 use Rattle.rank_defs.specs.Forest.{root_at, leaves_on, root_of, compose}
 use Rattle.rank_defs.specs.Ranks.{assigned, layer, held_cells, held, ranks_at, owner, owned}
 use Rattle.rank_defs.specs.Spread.{charts, migration_forest, trace}
@@ -17,6 +22,10 @@ held_counts m a n k = map length (charts m a n k)
 abbrev owned_counts : Mesh → List ℕ → ℕ → List ℕ
 owned_counts m a n = map (λ r. length (owned m a r)) (below n)
 
+-- the bases that the ranks draw where one asks after the other
+abbrev bases : Mesh → List ℕ → ℕ → List ℕ
+bases m a n = bases_of (scripted Number (0 ∷ []) (number_asks m a n) [])
+
 -- of a rank's held points, how many each rank owns
 abbrev owned_by : Mesh → List ℕ → ℕ → ℕ → List (List ℕ)
 owned_by m a n k = map (λ r. map (λ o. count_by (λ s. owner m a (point_of s) == o) (held m a r k)) (below n)) (below n)
@@ -26,6 +35,10 @@ owned_by m a n k = map (λ r. map (λ o. count_by (λ s. owner m a (point_of s) 
 around_a_vertex_owned : owned_counts around_a_vertex (0 ∷ 1 ∷ 2 ∷ 3 ∷ []) 4 ≡ 7 ∷ 4 ∷ 4 ∷ 2 ∷ []
 unfolding sorted sights_of contains stratum strata chart assigned layer held_cells held ranks_at owner owned
 around_a_vertex_owned = refl
+
+around_a_vertex_bases : bases around_a_vertex (0 ∷ 1 ∷ 2 ∷ 3 ∷ []) 4 ≡ 0 ∷ 7 ∷ 11 ∷ 15 ∷ []
+unfolding sorted sights_of contains stratum strata chart assigned layer held_cells held ranks_at owner owned number_asks scripted printed_order stands_before fetched_before step
+around_a_vertex_bases = refl
 
 around_a_vertex_held : owned_by around_a_vertex (0 ∷ 1 ∷ 2 ∷ 3 ∷ []) 4 0 ≡ (7 ∷ 0 ∷ 0 ∷ 0 ∷ []) ∷ (3 ∷ 4 ∷ 0 ∷ 0 ∷ []) ∷ (1 ∷ 2 ∷ 4 ∷ 0 ∷ []) ∷ (3 ∷ 0 ∷ 2 ∷ 2 ∷ []) ∷ []
 unfolding sorted sights_of contains stratum strata chart assigned layer held_cells held ranks_at owner
@@ -51,6 +64,10 @@ strip_in_blocks = (refl, refl)
 strip_in_stripes : (held_counts strip stripe 4 0 ≡ 18 ∷ 18 ∷ 18 ∷ 18 ∷ []) × (owned_counts strip stripe 4 ≡ 18 ∷ 12 ∷ 12 ∷ 9 ∷ [])
 unfolding sorted sights_of contains stratum strata chart assigned layer held_cells held ranks_at owner owned charts
 strip_in_stripes = (refl, refl)
+
+strip_bases : (bases strip block 4 ≡ 0 ∷ 15 ∷ 27 ∷ 39 ∷ []) × (bases strip stripe 4 ≡ 0 ∷ 18 ∷ 30 ∷ 42 ∷ [])
+unfolding sorted sights_of contains stratum strata chart assigned layer held_cells held ranks_at owner owned number_asks scripted printed_order stands_before fetched_before step
+strip_bases = (refl, refl)
 
 strip_with_two_layers : held_counts strip block 4 2 ≡ 27 ∷ 39 ∷ 39 ∷ 27 ∷ []
 unfolding sorted sights_of contains stratum strata chart assigned layer held_cells held charts

@@ -1,3 +1,7 @@
+pub mod Asks
+pub mod PrintedOrder
+pub mod Rounds
+pub mod Script
 pub mod Forest
 pub mod Closure
 pub mod Labels
