@@ -78,7 +78,7 @@ shows-vertex v w = and-true (v == w)
     and-true false = refl
 
 -- the test of numbers is symmetric
-eqb-sym : (a b : ℕ) → (a == b) ≡ (b == a)
+pub eqb-sym : (a b : ℕ) → (a == b) ≡ (b == a)
 eqb-sym a b = same_tests (a == b) (b == a) (λ h. eq-eqb b a (sym (eqb-true a b h))) (λ h. eq-eqb a b (sym (eqb-true b a h)))
 
 -- a vertex in a cell is contained in it

@@ -1,5 +1,5 @@
 -- Worked rows: supports, a star and a closure of two triangles on one rank; a section and a label.
-use Rattle.std.proofs.Common.{◌≡◌, ℕ, ◌+◌, List, [], ◌∷◌, map, length, ℤ, pos, negsuc, refl}
+use Rattle.std.proofs.Common.{◌≡◌, ℕ, List, [], ◌∷◌, map, ℤ, pos, negsuc, refl}
 use Rattle.std.specs.Prelude.{sum}
 use Rattle.mesh_defs.specs.declared.ConeEntry.{ConeEntry}
 use Rattle.mesh_defs.specs.Lists.{sorted}

@@ -1,9 +1,9 @@
 -- Worked rows: labels and fields of the points of small meshes.
-use Rattle.std.proofs.Common.{◌≡◌, ◌==◌, ℕ, ◌-◌, ◌*◌, ◌^◌, List, [], ◌∷◌, map, get_or, ℤ, pos, negsuc, refl}
+use Rattle.std.proofs.Common.{◌≡◌, ℕ, ◌-◌, ◌*◌, ◌^◌, List, [], ◌∷◌, map, ℤ, pos, negsuc, refl}
 use Rattle.mesh_defs.specs.declared.Poly.TheVariants.{Triangle}
 use Rattle.mesh_defs.specs.declared.Place.TheVariants.{Node, Element}
 use Rattle.mesh_defs.specs.Lists.{sorted, below}
-use Rattle.mesh_defs.specs.Mesh.{Mesh, Mark, Row, Section, placed_cells}
+use Rattle.mesh_defs.specs.Mesh.{Mesh, Mark, Row, placed_cells}
 use Rattle.mesh_defs.specs.Points.{Sight, sights_of, contains}
 use Rattle.mesh_defs.specs.Diagram.{stratum, strata, chart}
 use Rattle.rank_defs.specs.Labels.{mesh_label}

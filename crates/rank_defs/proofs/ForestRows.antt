@@ -1,7 +1,7 @@
 -- Worked rows of forests: two small forests on two ranks, and what is made of them.
-use Rattle.std.proofs.Common.{◌≡◌, ℕ, Bool, true, false, List, [], ◌∷◌, map, Option, Some, None, refl}
+use Rattle.std.proofs.Common.{◌≡◌, ℕ, true, false, List, [], ◌∷◌, map, Some, None, refl}
 use Rattle.rank_defs.specs.declared.Leaf.{Leaf}
-use Rattle.rank_defs.specs.Forest.{Forest, leaf, root_of, ForestFlaw, root_range, leaf_twice, flaw, compose, degree, shared_root, leaf_of, invert, embed_roots, embed_leaves}
+use Rattle.rank_defs.specs.Forest.{Forest, leaf, root_of, root_range, leaf_twice, flaw, compose, degree, shared_root, leaf_of, invert, embed_roots, embed_leaves}
 
 abbrev forest : List ℕ → List (List Leaf) → Forest
 forest roots leaves = record { roots = roots; leaves = leaves }

@@ -1,9 +1,9 @@
 -- The meshes of the worked rows.
-use Rattle.std.proofs.Common.{ℕ, ◌*◌, ◌^◌, ◌+◌, List, [], ◌∷◌, map, ℤ, pos, replicate, get_or}
+use Rattle.std.proofs.Common.{ℕ, ◌^◌, ◌+◌, List, [], ◌∷◌, map, ℤ, pos, replicate, get_or}
 use Rattle.mesh_defs.specs.declared.Poly.{Poly}
 use Rattle.mesh_defs.specs.declared.Poly.TheVariants.{Triangle, Quad, Hex}
 use Rattle.mesh_defs.specs.Lists.{below}
-use Rattle.mesh_defs.specs.Mesh.{Mesh, Cell}
+use Rattle.mesh_defs.specs.Mesh.{Mesh}
 
 -- a mesh without coordinates, marks and data
 abbrev pub bare : ℕ → ℕ → Poly → List (List ℕ) → Mesh

@@ -1,5 +1,5 @@
 -- Worked rows: two and three triangles over ranks.
-use Rattle.std.proofs.Common.{◌≡◌, ◌==◌, ℕ, List, [], ◌∷◌, map, length, flat_map, count_by, ℤ, pos, negsuc, refl}
+use Rattle.std.proofs.Common.{◌≡◌, ◌==◌, ℕ, List, [], ◌∷◌, map, flat_map, count_by, ℤ, pos, negsuc, refl}
 use Rattle.mesh_defs.specs.Mesh.{Mesh, Cell}
 use Rattle.mesh_defs.specs.declared.Poly.TheVariants.{Vertex, Segment, Triangle}
 use Rattle.mesh_defs.specs.declared.ConeEntry.{ConeEntry}
@@ -15,11 +15,11 @@ use Rattle.rank_defs.specs.Asks.{step}
 use Rattle.rank_defs.specs.PrintedOrder.{fetched_before, stands_before, printed_order}
 use Rattle.rank_defs.specs.Rounds.{Round}
 use Rattle.rank_defs.specs.Script.{scripted}
-use Rattle.rank_defs.specs.Forest.{Forest, leaf}
+use Rattle.rank_defs.specs.Forest.{leaf}
 use Rattle.rank_defs.specs.Labels.{mesh_label}
-use Rattle.rank_defs.specs.Fields.{row_values, data_words, dof_words, fields}
+use Rattle.rank_defs.specs.Fields.{fields}
 use Rattle.rank_defs.specs.Ranks.{assigned, layer, held_cells, held, ranks_at, owner, is_shared, owned, own_key}
-use Rattle.rank_defs.specs.Spread.{charts, point_forest, migration_forest, trace, LocalMesh, PlainDist, local_mesh, plain_dist, ScatterPart, PlainScatter, scatter_part, plain_scatter, own_chart, SharedPart, PlainShared, shared_part, plain_shared}
+use Rattle.rank_defs.specs.Spread.{charts, point_forest, migration_forest, trace, LocalMesh, local_mesh, plain_dist, scatter_part, plain_scatter, own_chart, shared_part, plain_shared}
 use Rattle.rank_defs.specs.Home.{by_vertices, shared_points, home_points, home_words, home_asks, number_asks, bases_of, number}
 use Rattle.rank_defs.proofs.Meshes.{two_triangles, two_triangles_at, twisted_hexahedra, three_triangles}
 
@@ -55,9 +55,9 @@ two_triangles_two_ranks : plain_dist two_triangles [] (0 ∷ 1 ∷ []) 2 0
       points = record { roots = 7 ∷ 7 ∷ []; leaves = [] ∷ (leaf 1 (0, 2) ∷ leaf 2 (0, 3) ∷ leaf 4 (0, 5) ∷ []) ∷ [] };
       locals =
           plain (of_one (triangle (at 4 (pos 0) ∷ at 5 (pos 0) ∷ at 6 (pos 0) ∷ []) ∷ vertex ∷ vertex ∷ vertex ∷ edge 1 2 ∷ edge 2 3 ∷ edge 3 1 ∷ []))
-              (0 ∷ 0 ∷ 1 ∷ 2 ∷ 8 ∷ 9 ∷ 10 ∷ []) (0 ∷ 0 ∷ 0 ∷ 0 ∷ 0 ∷ 0 ∷ 0 ∷ []) (map two_triangles_at (0 ∷ 1 ∷ 2 ∷ []))
+          (0 ∷ 0 ∷ 1 ∷ 2 ∷ 8 ∷ 9 ∷ 10 ∷ []) (0 ∷ 0 ∷ 0 ∷ 0 ∷ 0 ∷ 0 ∷ 0 ∷ []) (map two_triangles_at (0 ∷ 1 ∷ 2 ∷ []))
           ∷ plain (of_one (triangle (at 5 (pos 0) ∷ at 6 (pos 0) ∷ at 4 (negsuc 0) ∷ []) ∷ vertex ∷ vertex ∷ vertex ∷ edge 1 2 ∷ edge 1 3 ∷ edge 3 2 ∷ []))
-              (64 ∷ 1 ∷ 2 ∷ 3 ∷ 9 ∷ 72 ∷ 73 ∷ []) (1 ∷ 0 ∷ 0 ∷ 1 ∷ 0 ∷ 1 ∷ 1 ∷ []) (map two_triangles_at (1 ∷ 2 ∷ 3 ∷ []))
+          (64 ∷ 1 ∷ 2 ∷ 3 ∷ 9 ∷ 72 ∷ 73 ∷ []) (1 ∷ 0 ∷ 0 ∷ 1 ∷ 0 ∷ 1 ∷ 1 ∷ []) (map two_triangles_at (1 ∷ 2 ∷ 3 ∷ []))
           ∷ [];
     }
 unfolding sorted rotations reflections orientations corners_under act relative sights_of first_sight key arrangement contains stratum strata chart seen_under entry cone diagram mesh_label fields assigned held_cells held ranks_at owner charts point_forest local_mesh plain_dist

@@ -1,7 +1,6 @@
 -- Supports, closures and stars, after DMPlex, in a diagram whose points each have a list of vertices.
-use Rattle.std.specs.Prelude.{◌≡◌, ◌≢◌, ℕ, zero, suc, ◌<◌, Bool, not, ◌&&◌, ◌==◌, if◌then◌else◌, List, [], ◌∷◌, ◌++◌, length, map, get_or, filter, filter_map, find, flat_map, ℤ, pos, Option, Some, option_map, option_and_then}
+use Rattle.std.specs.Prelude.{◌≡◌, ◌≢◌, ℕ, zero, suc, ◌<◌, Bool, ◌==◌, if◌then◌else◌, List, [], ◌∷◌, ◌++◌, length, map, get_or, filter, filter_map, find, flat_map, ℤ, pos, Option, option_map, option_and_then}
 use Rattle.std.specs.List.{list_any}
-use Rattle.mesh_defs.specs.declared.Poly.{Poly}
 use Rattle.mesh_defs.specs.declared.Poly.TheVariants.{Vertex}
 use Rattle.mesh_defs.specs.declared.ConeEntry.{ConeEntry}
 use Rattle.mesh_defs.specs.Lists.{below, same_list, sorted, picked}

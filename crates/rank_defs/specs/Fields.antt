@@ -1,5 +1,5 @@
 -- Fields: words on points, laid out by sections, after PetscSection.
-use Rattle.std.specs.Prelude.{ℕ, ◌+◌, ◌-◌, ◌*◌, ◌/◌, ◌^◌, ◌==◌, if◌then◌else◌, List, [], ◌++◌, map, reverse, take, get_or, slice_index, slice_range, filter, find, flat_map, sum, sum_by, ℤ, pos, negsuc, Option, Some, None, option_map, option_and_then, unwrap_or}
+use Rattle.std.specs.Prelude.{ℕ, ◌+◌, ◌-◌, ◌*◌, ◌/◌, ◌^◌, ◌==◌, if◌then◌else◌, List, [], ◌++◌, map, reverse, take, slice_index, slice_range, filter, find, sum, sum_by, ℤ, pos, negsuc, Option, Some, None, option_map, option_and_then, unwrap_or}
 use Rattle.mesh_defs.specs.declared.Place.{Place}
 use Rattle.mesh_defs.specs.declared.Place.TheVariants.{Node, Element}
 use Rattle.mesh_defs.specs.Lists.{below}

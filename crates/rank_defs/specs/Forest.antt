@@ -1,6 +1,6 @@
 -- Star forests, after PetscSF: leaves on ranks, each of which names one root on a rank. A root may have many leaves.
-use Rattle.std.specs.Prelude.{◌≡◌, ℕ, ◌+◌, Bool, false, ◌&&◌, ◌==◌, if◌then◌else◌, nat_lt, List, [], ◌∷◌, ◌++◌, length, map, get_or, filter, filter_map, find, flat_map, sum_by, count_by, Option, Some, None, option_map, option_and_then}
-use Rattle.std.specs.List.{list_any, enumerate_from}
+use Rattle.std.specs.Prelude.{◌≡◌, ℕ, ◌+◌, ◌<◌, slice_index, Bool, false, ◌&&◌, ◌==◌, if◌then◌else◌, nat_lt, List, [], ◌∷◌, map, get_or, filter, filter_map, find, flat_map, sum_by, count_by, Option, Some, None, option_map}
+use Rattle.std.specs.List.{list_any, enumerate_from, AllByRecursion}
 use Rattle.mesh_defs.specs.Lists.{below}
 use Rattle.rank_defs.specs.declared.Leaf.{Leaf}
 
@@ -31,16 +31,25 @@ MeansSame f g = (rank local : ℕ) → root_of f rank local ≡ root_of g rank l
 
 -- ---- when lists are a forest
 
+abbrev pub or_else : {X : Type 0} → Option X → Option X → Option X
+or_else None other = other
+or_else (Some x) other = Some x
+
+-- the first that h gives of some things
+abbrev pub first_some : {X Y : Type 0} → (X → Option Y) → List X → Option Y
+first_some h [] = None
+first_some h (x ∷ xs) = or_else (h x) (first_some h xs)
+
 -- what is wrong at a leaf: it names no root, or an earlier leaf of the rank has its local index
 pub data ForestFlaw : Type 0 where
   root_range : (rank leaf : ℕ) → ForestFlaw
   leaf_twice : (rank local : ℕ) → ForestFlaw
 
-abbrev has_root : List ℕ → Leaf → Bool
+abbrev pub has_root : List ℕ → Leaf → Bool
 has_root roots l = nat_lt l.index (get_or roots l.rank 0)
 
 -- the first flaw among the leaves of a rank, from place i on, behind these earlier ones
-abbrev flaw_on : List ℕ → ℕ → List Leaf → ℕ → List Leaf → Option ForestFlaw
+abbrev pub flaw_on : List ℕ → ℕ → List Leaf → ℕ → List Leaf → Option ForestFlaw
 flaw_on roots rank earlier i [] = None
 flaw_on roots rank earlier i (l ∷ ls) =
     if has_root roots l then (if list_any (λ (e : Leaf). e.local == l.local) earlier then Some (leaf_twice rank l.local) else flaw_on roots rank (l ∷ earlier) (i + 1) ls)
@@ -48,11 +57,7 @@ flaw_on roots rank earlier i (l ∷ ls) =
 
 -- the first flaw of a forest, by rank and place; none where the lists are a forest
 unfoldable pub flaw : Forest → Option ForestFlaw
-flaw f = find_flaw (enumerate_from 0 f.leaves)
-  where
-    find_flaw : List (ℕ × List Leaf) → Option ForestFlaw
-    find_flaw [] = None
-    find_flaw (r ∷ rs) = elim (flaw_on f.roots r.0 [] 0 r.1) [ None ↦ find_flaw rs | Some w ↦ Some w ]
+flaw f = first_some (λ r. flaw_on f.roots r.0 [] 0 r.1) (enumerate_from 0 f.leaves)
 
 -- each leaf names a root that is there, and no two leaves of a rank have one local index
 abbrev pub IsForest : Forest → Type 0
@@ -61,15 +66,15 @@ IsForest f = flaw f ≡ None
 -- ---- what is made of forests
 
 -- the leaf with the root that it reaches through a forest whose leaves are the other's roots
-abbrev through : Forest → Leaf → Option Leaf
+abbrev pub through : Forest → Leaf → Option Leaf
 through a l = option_map (leaf l.local) (root_of a l.rank l.index)
 
 -- First b and then a: the roots of a, and the leaves of b in their order. A leaf of b whose root is no leaf of a falls away.
 unfoldable pub compose : Forest → Forest → Forest
 compose a b = record { roots = a.roots; leaves = map (filter_map (through a)) b.leaves }
 
--- it is a leaf on this root
-abbrev is_on : ℕ × ℕ → Leaf → Bool
+-- the leaf is on this root
+abbrev pub is_on : ℕ × ℕ → Leaf → Bool
 is_on root l = (l.rank == root.0) && (l.index == root.1)
 
 -- how many leaves name a root
@@ -86,11 +91,11 @@ shared_root f = find (λ root. nat_lt 1 (degree f root.0 root.1)) (all_roots f)
 
 -- the first leaf on a root, by its rank and local index
 unfoldable pub leaf_of : Forest → ℕ → ℕ → Option (ℕ × ℕ)
-leaf_of f rank index = find_leaf (enumerate_from 0 f.leaves)
-  where
-    find_leaf : List (ℕ × List Leaf) → Option (ℕ × ℕ)
-    find_leaf [] = None
-    find_leaf (r ∷ rs) = elim (find (is_on (rank, index)) r.1) [ None ↦ find_leaf rs | Some l ↦ Some (r.0, l.local) ]
+leaf_of f rank index = first_some (λ r. option_map (λ (l : Leaf). (r.0, l.local)) (find (is_on (rank, index)) r.1)) (enumerate_from 0 f.leaves)
+
+-- the local indices of the leaves of each rank are below its number
+abbrev pub FitsLocals : Forest → List ℕ → Type 0
+FitsLocals f roots = (rank : ℕ) → AllByRecursion (λ (l : Leaf). l.local < slice_index roots rank) (leaves_on f rank)
 
 -- The converse of a forest without shared roots: a root with a leaf becomes a leaf, and that leaf its root. There are
 -- `roots` roots on the ranks, and the leaves of a rank stand by rising local index.

@@ -1,11 +1,11 @@
 -- The home round, in which the ranks learn the keys of the faces and edges that they share; the number round, in which each
 -- rank draws the base of its numbers.
-use Rattle.std.specs.Prelude.{◌≡◌, ℕ, ◌+◌, Bool, true, false, ◌&&◌, ◌||◌, ◌==◌, if◌then◌else◌, nat_lt, List, [], ◌∷◌, length, map, filter, filter_map, flat_map, get_or, slice_index, Option, None, option_map, unwrap_or}
+use Rattle.std.specs.Prelude.{◌≡◌, ℕ, ◌+◌, Bool, true, false, ◌&&◌, ◌||◌, ◌==◌, if◌then◌else◌, nat_lt, List, [], ◌∷◌, length, map, filter, filter_map, flat_map, slice_index, None, option_map, unwrap_or}
 use Rattle.std.specs.List.{enumerate_from}
 use Rattle.mesh_defs.specs.Lists.{below}
 use Rattle.mesh_defs.specs.Tables.{dim_of}
 use Rattle.mesh_defs.specs.Mesh.{Mesh}
-use Rattle.mesh_defs.specs.Points.{Point, Sight, point_of}
+use Rattle.mesh_defs.specs.Points.{Point, point_of}
 use Rattle.mesh_defs.specs.Diagram.{strata, place_in}
 use Rattle.rank_defs.specs.declared.Op.TheVariants.{Sum, Min}
 use Rattle.rank_defs.specs.declared.Tag.TheVariants.{Home, Number}

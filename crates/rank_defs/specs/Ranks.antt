@@ -1,9 +1,9 @@
 -- What each rank holds and owns, at any overlap. A part assigns a rank to each cell, as a list by the cells' places.
-use Rattle.std.specs.Prelude.{◌≡◌, ℕ, zero, suc, ◌<◌, min, Bool, not, ◌||◌, ◌==◌, List, [], ◌∷◌, length, map, filter, find, fold, get_or, slice_index, Option, Some, None, option_map, unwrap_or, IsSome}
+use Rattle.std.specs.Prelude.{◌≡◌, ℕ, zero, suc, ◌<◌, min, Bool, not, ◌||◌, ◌==◌, List, [], ◌∷◌, length, map, filter, find, fold, slice_index, Option, Some, None, option_map, unwrap_or}
 use Rattle.std.specs.List.{list_any, AllByRecursion}
 use Rattle.mesh_defs.specs.Mesh.{Mesh, Cell, placed_cells}
 use Rattle.mesh_defs.specs.Points.{Point, Sight, point_of, shows, sights, contains}
-use Rattle.mesh_defs.specs.Diagram.{chart, place_in}
+use Rattle.mesh_defs.specs.Diagram.{chart}
 
 -- each cell has one of n ranks
 pub record IsAssignment (m : Mesh) (n : ℕ) (a : List ℕ) : Type 0 where

@@ -1,6 +1,6 @@
 -- A mesh spread over ranks, as plain lists for each rank: the values that the calls which distribute a mesh stand for.
 -- Where a plan has `dofs` lines, `dofs` are their counts by dimension.
-use Rattle.std.specs.Prelude.{◌≡◌, ℕ, Bool, not, ◌==◌, if◌then◌else◌, List, [], ◌∷◌, ◌++◌, length, map, filter, get_or, slice_index, ◌+◌, ℤ, Option}
+use Rattle.std.specs.Prelude.{◌≡◌, ℕ, not, ◌==◌, if◌then◌else◌, List, [], ◌++◌, length, map, filter, get_or, ℤ, Option}
 use Rattle.std.specs.List.{list_any, enumerate_from}
 use Rattle.mesh_defs.specs.declared.Place.{Place}
 use Rattle.mesh_defs.specs.declared.Place.TheVariants.{Node, Element}
@@ -13,7 +13,7 @@ use Rattle.rank_defs.specs.declared.Leaf.{Leaf}
 use Rattle.rank_defs.specs.Forest.{Forest, leaf}
 use Rattle.rank_defs.specs.Labels.{marked_point, mesh_label}
 use Rattle.rank_defs.specs.Fields.{row_values, fields}
-use Rattle.rank_defs.specs.Ranks.{assigned, held_cells, held, owner, owned}
+use Rattle.rank_defs.specs.Ranks.{assigned, held_cells, held, owner}
 
 -- ---- forests of points
 

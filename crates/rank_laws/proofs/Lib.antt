@@ -1,0 +1,5 @@
+pub mod Lists
+pub mod Owning
+pub mod OwnKeys
+pub mod Forests
+pub mod Inverting

@@ -1,0 +1,62 @@
+//! Laws of forests and of meshes over ranks: what follows from the definitions alone.
+//!
+//! Each function below does nothing: its contract is the law, and its proof is the law's.
+#![tactic(auto)]
+
+ghost use Rattle.std.specs.Prelude.{◌≡◌, ◌≢◌, ◌↔◌, ◌==◌, ℕ, ◌+◌, List, None, Some, Option, Contains, IsPermutation, filter, filter_map, flat_map, option_and_then, true};
+ghost use Rattle.mesh_defs.specs.Lists.{below};
+ghost use Rattle.mesh_defs.specs.Mesh.{Mesh, placed_cells};
+ghost use Rattle.mesh_defs.specs.Points.{Point, Sight, point_of, key};
+ghost use Rattle.mesh_defs.specs.Diagram.{strata};
+ghost use Rattle.rank_defs.specs.Forest.{Forest, IsForest, MeansSame, FitsLocals, root_of, compose, invert, shared_root};
+ghost use Rattle.rank_defs.specs.Ranks.{IsAssignment, least, held_cells, held, owner, owned, own_key};
+ghost use Rattle.rank_laws.specs.Conditions.{UsesVertices, in_some};
+
+// ---- what ranks hold and own
+
+/// The owner of a point that stands in some cell holds it without overlap.
+pub fn owner_holds_its_points()
+    ensures { (m : Mesh) (a : List ℕ) (s : Sight) → Contains (strata m) s → in_some (point_of s) (placed_cells m) ≡ true → Contains (held m a (owner m a (point_of s)) 0) s }
+{}
+
+/// The owned points of the ranks are all points, each once.
+pub fn owned_points_are_all_points()
+    ensures { (m : Mesh) (n : ℕ) (a : List ℕ) → UsesVertices m → IsAssignment m n a → IsPermutation (strata m) (flat_map (owned m a) (below n)) }
+{}
+
+/// The chart with k layers is the part of the chart with one more layer that the cells with k layers contain.
+pub fn charts_grow()
+    ensures { (m : Mesh) (a : List ℕ) (r : ℕ) (k : ℕ) → filter (λ s. in_some (point_of s) (held_cells m a r k)) (held m a r (k + 1)) ≡ held m a r k }
+{}
+
+/// Of the points that a rank holds with k layers, those that it owns are its owned points, in the same order.
+pub fn owned_points_keep_their_order()
+    ensures { (m : Mesh) (a : List ℕ) (r : ℕ) (k : ℕ) → filter (λ s. owner m a (point_of s) == r) (held m a r k) ≡ owned m a r }
+{}
+
+/// The key of a face or an edge is the least of the ranks' own least keys.
+pub fn key_is_the_least_own_key()
+    ensures { (m : Mesh) (n : ℕ) (a : List ℕ) (p : Point) → p.dim ≢ 0 → IsAssignment m n a → least (filter_map (λ r. own_key m a r p) (below n)) ≡ key m p }
+{}
+
+// ---- forests
+
+/// What a composition looks up is what the second forest looks up, looked up in the first.
+pub fn composition_is_of_maps()
+    ensures { (a : Forest) (b : Forest) → IsForest b → (rank : ℕ) (local : ℕ) → root_of (compose a b) rank local ≡ option_and_then (λ (r : ℕ × ℕ). root_of a r.0 r.1) (root_of b rank local) }
+{}
+
+/// Composition is associative, list by list.
+pub fn composition_is_associative()
+    ensures { (a : Forest) (b : Forest) (c : Forest) → IsForest b → compose (compose a b) c ≡ compose a (compose b c) }
+{}
+
+/// In the inverse of a forest without shared roots a root looks up a leaf just where the leaf looks up the root.
+pub fn inverse_is_the_converse()
+    ensures { (f : Forest) (roots : List ℕ) → IsForest f → shared_root f ≡ None → (r : ℕ) (i : ℕ) (s : ℕ) (l : ℕ) → (root_of (invert f roots) r i ≡ Some (s, l)) ↔ (root_of f s l ≡ Some (r, i)) }
+{}
+
+/// Inverting twice gives a forest that means the same.
+pub fn inverting_twice_means_the_same()
+    ensures { (f : Forest) (roots : List ℕ) → IsForest f → shared_root f ≡ None → FitsLocals f roots → MeansSame (invert (invert f roots) f.roots) f }
+{}
