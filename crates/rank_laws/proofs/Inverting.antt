@@ -12,6 +12,7 @@ use Rattle.mesh_laws.proofs.Containing.{below-all, eqb-sym}
 use Rattle.rank_defs.specs.declared.Leaf.{Leaf}
 use Rattle.rank_defs.specs.Forest.{Forest, leaf, root_at, leaves_on, roots_on, root_of, MeansSame, or_else, first_some, has_root, IsForest, is_on, degree, all_roots, shared_root, leaf_of, FitsLocals, invert}
 use Rattle.rank_laws.proofs.Lists.{find-cases, find-has}
+use Rattle.rank_laws.proofs.Lists.{image-at}
 use Rattle.rank_laws.proofs.Forests.{is_local, locals_differ, sound}
 
 -- ---- leaves that are found by their local index
@@ -184,12 +185,6 @@ leaf-found f rank local root low e = let (x, h) = leaf-there f rank local root e
 
 -- ---- the inverse
 
--- a list of images at a place, where the image of no roots is nothing
-image-at : {Y : Type 0} (g : ℕ × ℕ → List Y) → ((k : ℕ) → g (k, 0) ≡ []) → (n : ℕ) (xs : List ℕ) (k : ℕ) → get_or (map g (enumerate_from n xs)) k [] ≡ g (n + k, get_or xs k 0)
-image-at g past n [] k = sym (past (n + k))
-image-at g past n (x ∷ xs) zero = ap (λ i. g (i, x)) (let e : n ≡ n + 0 = omega arith in e)
-image-at g past n (x ∷ xs) (suc k) = image-at g past (n + 1) xs k ∙ ap (λ i. g (i, get_or xs k 0)) (let e : n + 1 + k ≡ n + suc k = omega arith in e)
-
 -- what is found in two lists end to end
 find-append : {X : Type 0} (p : X → Bool) (xs ys : List X) → find p (xs ++ ys) ≡ or_else (find p xs) (find p ys)
 find-append p [] ys = refl
@@ -248,7 +243,7 @@ looked-given h (suc n) local =
 pub root-of_inverse : (f : Forest) (roots : List ℕ) (rank local : ℕ) → root_of (invert f roots) rank local ≡ cond (nat_lt local (roots_on f rank)) (leaf_of f rank local) None
 unfolding root_of invert given
 root-of_inverse f roots rank local =
-    ap (λ ls. option_map root_at (find (is_local local) ls)) (image-at (λ r. given (leaf_of f r.0) r.1) (λ k. refl) 0 f.roots rank ∙ ap (λ k. given (leaf_of f k) (roots_on f rank)) (zero-add rank))
+    ap (λ ls. option_map root_at (find (is_local local) ls)) (image-at 0 (λ r. given (leaf_of f r.0) r.1) (λ k. refl) 0 f.roots rank ∙ ap (λ k. given (leaf_of f k) (roots_on f rank)) (zero-add rank))
     ∙ looked-given (leaf_of f rank) (roots_on f rank) local
 
 -- what all given leaves have
@@ -267,7 +262,7 @@ given-all P h n f = go (below n) (below-all n)
 -- each leaf of an inverse is found by its local index
 inverse-findable : (f : Forest) (roots : List ℕ) (rank : ℕ) → Findable (leaves_on (invert f roots) rank) (leaves_on (invert f roots) rank)
 unfolding invert given
-inverse-findable f roots rank = subst (λ ls. Findable ls ls) (sym (image-at (λ r. given (leaf_of f r.0) r.1) (λ k. refl) 0 f.roots rank ∙ ap (λ k. given (leaf_of f k) (roots_on f rank)) (zero-add rank)))
+inverse-findable f roots rank = subst (λ ls. Findable ls ls) (sym (image-at 0 (λ r. given (leaf_of f r.0) r.1) (λ k. refl) 0 f.roots rank ∙ ap (λ k. given (leaf_of f k) (roots_on f rank)) (zero-add rank)))
     (given-all (λ (l : Leaf). option_map root_at (find (is_local l.local) (given (leaf_of f rank) (roots_on f rank))) ≡ Some (root_at l)) (leaf_of f rank) (roots_on f rank)
     (λ i r low e. looked-given (leaf_of f rank) (roots_on f rank) i ∙ cond-true (nat_lt i (roots_on f rank)) (leaf_of f rank i) None (lt-ltb i (roots_on f rank) low) ∙ e))
 

@@ -1,7 +1,10 @@
--- Filters, first places and least numbers.
-use Rattle.std.proofs.Common.{◌≡◌, ℕ, ◌<◌, ◌≤◌, min, Bool, true, false, cond, ◌&&◌, ◌||◌, ◌==◌, List, [], ◌∷◌, fold, Some, None, refl, ap, ap₂, ◌∙◌, subst, inl, inr, ◌⊎◌, ⊎_elim, arith}
+-- Filters, first places, least numbers, and lists at places.
+use Rattle.std.proofs.Common.{◌≡◌, ℕ, zero, suc, ◌+◌, get_or, length, map, ◌++◌, sym, ◌<◌, ◌≤◌, min, Bool, true, false, cond, ◌&&◌, ◌||◌, ◌==◌, List, [], ◌∷◌, fold, Some, None, refl, ap, ap₂, ◌∙◌, subst, inl, inr, ◌⊎◌, ⊎_elim, arith}
 use Rattle.std.specs.Prelude.{find}
-use Rattle.std.specs.List.{list_any, AllByRecursion, filter}
+use Rattle.std.specs.List.{list_any, AllByRecursion, filter, enumerate_from}
+use Rattle.std.proofs.lemmas.List.{map-append, length-map}
+use Rattle.mesh_defs.specs.Lists.{below}
+use Rattle.mesh_laws.proofs.Containing.{length-below}
 use Rattle.std.proofs.lemmas.Bool.{eq-eqb, eqb-true, cases_lt, or_left, or_right, or_cases, or_parts, cond-false}
 use Rattle.rank_defs.specs.Ranks.{least}
 
@@ -119,3 +122,33 @@ find-has P p (y ∷ ys) x h e = go (p y) e (find-has P p ys x h.1)
     go : (b : Bool) → cond b (Some y) (find p ys) ≡ Some x → (find p ys ≡ Some x → P x) → P x
     go true f r = let same : y ≡ x = cc f in subst P same h.0
     go false f r = r f
+
+-- ---- lists at places
+
+-- a list of images of enumerated things at a place, where the image of the default is nothing
+pub image-at : {X Y : Type 0} (d : X) (g : ℕ × X → List Y) → ((k : ℕ) → g (k, d) ≡ []) → (n : ℕ) (xs : List X) (k : ℕ) → get_or (map g (enumerate_from n xs)) k [] ≡ g (n + k, get_or xs k d)
+image-at d g past n [] k = sym (past (n + k))
+image-at d g past n (x ∷ xs) zero = ap (λ i. g (i, x)) (let e : n ≡ n + 0 = omega arith in e)
+image-at d g past n (x ∷ xs) (suc k) = image-at d g past (n + 1) xs k ∙ ap (λ i. g (i, get_or xs k d)) (let e : n + 1 + k ≡ n + suc k = omega arith in e)
+
+-- what stands behind a list
+behind : {X : Type 0} (xs : List X) (x d : X) → get_or (xs ++ x ∷ []) (length xs) d ≡ x
+behind [] x d = refl
+behind (y ∷ ys) x d = behind ys x d
+
+-- what stands before the end of a list
+before : {X : Type 0} (xs ys : List X) (k : ℕ) (d : X) → k < length xs → get_or (xs ++ ys) k d ≡ get_or xs k d
+before [] ys k d h = absurd (omega arith)
+before (x ∷ xs) ys zero d h = refl
+before (x ∷ xs) ys (suc k) d h = before xs ys k d (omega arith)
+
+-- the image of a number below n
+pub image-below : {X : Type 0} (f : ℕ → X) (d : X) (n k : ℕ) → k < n → get_or (map f (below n)) k d ≡ f k
+image-below f d zero k h = absurd (omega arith)
+image-below f d (suc n) k h = ap (λ l. get_or l k d) (map-append f (below n) (n ∷ [])) ∙ ⊎_elim
+    (λ (lt : k < n). before (map f (below n)) (f n ∷ []) k d (omega (arith, count n)) ∙ image-below f d n k lt)
+    (λ (ge : n ≤ k). let same : k ≡ n = omega arith in let long : k ≡ length (map f (below n)) = omega (arith, count n) in ap (λ i. get_or (map f (below n) ++ f n ∷ []) i d) long ∙ behind (map f (below n)) (f n) d ∙ ap f (sym same))
+    (cases_lt k n)
+  where
+    count : (j : ℕ) → length (map f (below j)) ≡ j
+    count j = length-map (below j) f ∙ length-below j

@@ -3,16 +3,35 @@
 //! Each function below does nothing: its contract is the law, and its proof is the law's.
 #![tactic(auto)]
 
-ghost use Rattle.std.specs.Prelude.{◌≡◌, ◌≢◌, ◌↔◌, ◌==◌, ℕ, ◌+◌, List, None, Some, Option, Contains, IsPermutation, filter, filter_map, flat_map, option_and_then, true};
+ghost use Rattle.std.specs.Prelude.{◌≡◌, ◌≢◌, ◌↔◌, ◌==◌, ◌<◌, ℕ, ◌+◌, List, None, Some, Option, Contains, IsPermutation, filter, filter_map, flat_map, option_and_then, true};
 ghost use Rattle.mesh_defs.specs.Lists.{below};
 ghost use Rattle.mesh_defs.specs.Mesh.{Mesh, placed_cells};
-ghost use Rattle.mesh_defs.specs.Points.{Point, Sight, point_of, key};
+ghost use Rattle.mesh_defs.specs.Points.{Point, Sight, point_of, key, arrangement};
 ghost use Rattle.mesh_defs.specs.Diagram.{strata};
+ghost use Rattle.mesh_laws.specs.TriangleMesh.{points_differ};
 ghost use Rattle.rank_defs.specs.Forest.{Forest, IsForest, MeansSame, FitsLocals, root_of, compose, invert, shared_root};
 ghost use Rattle.rank_defs.specs.Ranks.{IsAssignment, least, held_cells, held, owner, owned, own_key};
-ghost use Rattle.rank_laws.specs.Conditions.{UsesVertices, in_some};
+ghost use Rattle.rank_defs.specs.Spread.{migration_forest};
+ghost use Rattle.rank_laws.specs.Conditions.{UsesVertices, IsFlatOrSolid, in_some};
+
+// ---- points
+
+/// A point of a mesh stands in its chart under its key and with its arrangement.
+pub fn points_stand_as_first_seen()
+    ensures { (m : Mesh) (s : Sight) → Contains (strata m) s → (key m (point_of s) ≡ Some s.key) × (arrangement m (point_of s) ≡ Some s.arrangement) }
+{}
+
+/// No two points of the chart of a mesh of dimension 2 or 3 are one.
+pub fn points_stand_once()
+    ensures { (m : Mesh) → IsFlatOrSolid m → points_differ (strata m) ≡ true }
+{}
 
 // ---- what ranks hold and own
+
+/// The owner of a point that stands in some cell is one of the ranks.
+pub fn owners_are_ranks()
+    ensures { (m : Mesh) (n : ℕ) (a : List ℕ) (p : Point) → IsAssignment m n a → in_some p (placed_cells m) ≡ true → owner m a p < n }
+{}
 
 /// The owner of a point that stands in some cell holds it without overlap.
 pub fn owner_holds_its_points()
@@ -37,6 +56,12 @@ pub fn owned_points_keep_their_order()
 /// The key of a face or an edge is the least of the ranks' own least keys.
 pub fn key_is_the_least_own_key()
     ensures { (m : Mesh) (n : ℕ) (a : List ℕ) (p : Point) → p.dim ≢ 0 → IsAssignment m n a → least (filter_map (λ r. own_key m a r p) (below n)) ≡ key m p }
+{}
+
+/// A redistribution from a to b and then one from b to c are the redistribution from a to c. Where a is the first
+/// assignment, the root of each leaf is the trace of the leaf's point.
+pub fn redistributions_compose()
+    ensures { (m : Mesh) (n : ℕ) (a : List ℕ) (b : List ℕ) (c : List ℕ) → IsAssignment m n b → compose (migration_forest m a b n) (migration_forest m b c n) ≡ migration_forest m a c n }
 {}
 
 // ---- forests
