@@ -15,17 +15,17 @@ use Rattle.mesh_laws.proofs.Places.{none_passes, all_map, all_from, all_weaker, 
 use Rattle.mesh_laws.proofs.Turns.{relative-carries}
 
 -- the keys rise from low on, and stay below high
-abbrev Rises : ℕ → ℕ → List Sight → Type 0
+abbrev pub Rises : ℕ → ℕ → List Sight → Type 0
 Rises low high [] = low ≤ high
 Rises low high (s ∷ ss) = (low ≤ s.key) × Rises (s.key + 1) high ss
 
 -- wider bounds
-rises-wider : (low low' high high' : ℕ) (ss : List Sight) → low' ≤ low → high ≤ high' → Rises low high ss → Rises low' high' ss
+pub rises-wider : (low low' high high' : ℕ) (ss : List Sight) → low' ≤ low → high ≤ high' → Rises low high ss → Rises low' high' ss
 rises-wider low low' high high' [] l h r = omega arith
 rises-wider low low' high high' (s ∷ ss) l h r = (omega (arith, r.0), rises-wider (s.key + 1) (s.key + 1) high high' ss (omega arith) h r.1)
 
 -- two rising lists end to end
-rises-append : (low mid high : ℕ) (xs ys : List Sight) → Rises low mid xs → Rises mid high ys → Rises low high (xs ++ ys)
+pub rises-append : (low mid high : ℕ) (xs ys : List Sight) → Rises low mid xs → Rises mid high ys → Rises low high (xs ++ ys)
 rises-append low mid high [] ys p q = rises-wider mid low high high ys p (omega arith) q
 rises-append low mid high (x ∷ xs) ys p q = (p.0, rises-append (x.key + 1) mid high xs ys p.1 q)
 
@@ -61,7 +61,7 @@ few_edges Tet = omega arith
 few_edges Hex = omega arith
 
 -- the keys of cell c rise from 64c on
-sights_of-rise : (c : ℕ) (cell : Cell) → Rises (64 * c) (64 * c + 64) (sights_of (c, cell))
+pub sights_of-rise : (c : ℕ) (cell : Cell) → Rises (64 * c) (64 * c + 64) (sights_of (c, cell))
 unfolding sights_of
 sights_of-rise c cell = (
   omega arith,
@@ -93,7 +93,7 @@ sights-rise n (cell ∷ cells) =
     (rises-wider (64 * (n + 1)) (64 * n + 64) (64 * (n + 1 + length cells)) (64 * (n + length (cell ∷ cells))) (sights (enumerate_from (n + 1) cells)) (omega arith) (omega arith) (sights-rise (n + 1) cells))
 
 -- what is found first has the least key
-found-least : (p : Point) (low high : ℕ) (ss : List Sight) (d : Sight) → Rises low high ss → (i : ℕ) → i < length ss → shows p (get_or ss i d) ≡ true → (t : Sight) × (find (shows p) ss ≡ Some t) × (t.key ≤ (get_or ss i d).key)
+pub found-least : (p : Point) (low high : ℕ) (ss : List Sight) (d : Sight) → Rises low high ss → (i : ℕ) → i < length ss → shows p (get_or ss i d) ≡ true → (t : Sight) × (find (shows p) ss ≡ Some t) × (t.key ≤ (get_or ss i d).key)
 found-least p low high [] d r = λ i h s. absurd (omega arith)
 found-least p low high (x ∷ xs) d r = go (shows p x) refl (found-least p (x.key + 1) high xs d r.1)
   where

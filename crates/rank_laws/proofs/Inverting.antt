@@ -153,7 +153,7 @@ at-below P zero h i low = absurd (omega arith)
 at-below P (suc n) h i low = ⊎_elim (λ (lt : i < n). at-below P n (all_append_first P (below n) (n ∷ []) h) i lt) (λ (ge : n ≤ i). let same : n ≡ i = omega arith in subst P same (all_append_second P (below n) (n ∷ []) h).0) (cases_lt i n)
 
 -- what all images have
-of-images : {X Y : Type 0} (P : Y → Type 0) (g : X → Y) (xs : List X) → AllByRecursion P (map g xs) → AllByRecursion (λ x. P (g x)) xs
+pub of-images : {X Y : Type 0} (P : Y → Type 0) (g : X → Y) (xs : List X) → AllByRecursion P (map g xs) → AllByRecursion (λ x. P (g x)) xs
 of-images P g [] h = tt
 of-images P g (x ∷ xs) h = (h.0, of-images P g xs h.1)
 

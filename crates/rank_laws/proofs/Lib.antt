@@ -3,5 +3,7 @@ pub mod Owning
 pub mod OwnKeys
 pub mod Strata
 pub mod Redistribution
+pub mod PointForests
+pub mod HomeRound
 pub mod Forests
 pub mod Inverting

@@ -1,16 +1,16 @@
 -- The key of a point is the least of the ranks' own least keys.
-use Rattle.std.proofs.Common.{◌≡◌, ◌≢◌, ℕ, zero, suc, ◌<◌, ◌≤◌, Bool, true, false, cond, ◌==◌, List, [], ◌∷◌, length, Option, Some, None, Contains, refl, sym, ap, ◌∙◌, ⊎_elim, arith}
+use Rattle.std.proofs.Common.{◌*◌, ◌+◌, ◌≡◌, ◌≢◌, ℕ, zero, suc, ◌<◌, ◌≤◌, Bool, true, false, cond, ◌==◌, List, [], ◌∷◌, length, Option, Some, None, Contains, refl, sym, ap, ◌∙◌, ⊎_elim, arith}
 use Rattle.std.specs.Prelude.{find, flat_map, option_map, filter_map}
-use Rattle.std.specs.List.{list_any, AllByRecursion, filter, cons_option}
+use Rattle.std.specs.List.{list_any, AllByRecursion, filter, cons_option, enumerate_from}
 use Rattle.std.proofs.lemmas.Bool.{eq-eqb, ne_eqb, and_left, or_left, or_right, cond-true, cases_lt}
 use Rattle.std.proofs.lemmas.List.Elements.{filter_map-append, All-contains_itself, recursion_from_All}
 use Rattle.std.proofs.lemmas.List.Folds.{list_any-append}
 use Rattle.mesh_defs.specs.Lists.{below, same_list, sorted}
-use Rattle.mesh_defs.specs.Mesh.{Mesh, placed_cells}
+use Rattle.mesh_defs.specs.Mesh.{Mesh, Cell, placed_cells}
 use Rattle.mesh_defs.specs.Points.{Point, Sight, shows, sights_of, sights, vertex_sight, vertex_sights, first_sight, key}
 use Rattle.mesh_laws.proofs.Places.{each_fails, none_passes, all_map, all_from, all_weaker, all_filter, all_flat_map, all_in_flat_map, find-append_found, find-append_none}
 use Rattle.mesh_laws.proofs.Turns.{find-passes}
-use Rattle.mesh_laws.proofs.Keys.{key-least}
+use Rattle.mesh_laws.proofs.Keys.{Rises, rises-wider, rises-append, sights_of-rise, found-least, key-least}
 use Rattle.rank_defs.specs.Ranks.{IsAssignment, least, rank_of, assigned, own_key}
 use Rattle.rank_laws.proofs.Lists.{find-none, find-cases, find-has, least-some}
 use Rattle.rank_laws.proofs.Owning.{ranks-below, below_among}
@@ -42,7 +42,7 @@ find-part {X} {Y} p f (x ∷ xs) y h = go (list_any p (f x)) refl (find-part p f
 -- ---- what a function gives on the numbers below n
 
 -- what it gives at a number is among what it gives
-given-among : (h : ℕ → Option ℕ) (n r k : ℕ) → r < n → h r ≡ Some k → list_any (λ y. y == k) (filter_map h (below n)) ≡ true
+pub given-among : (h : ℕ → Option ℕ) (n r k : ℕ) → r < n → h r ≡ Some k → list_any (λ y. y == k) (filter_map h (below n)) ≡ true
 given-among h zero r k low e = absurd (omega arith)
 given-among h (suc n) r k low e = ap (list_any (λ y. y == k)) (filter_map-append h (below n) (n ∷ [])) ∙ list_any-append (λ y. y == k) (filter_map h (below n)) (cons_option (h n) [])
     ∙ ⊎_elim (λ (lt : r < n). or_left _ _ (given-among h n r k lt e))
@@ -117,3 +117,26 @@ module _ (m : Mesh) (p : Point) (ne : p.dim ≢ 0) where
       unseen : list_any (shows p) (sights (placed_cells m)) ≡ false → least (filter_map own (below n)) ≡ key m p
       unseen e = ap least (given-nothing own (λ r. ap (option_map (λ (t : Sight). t.key)) (find-none (shows p) (sights (assigned m a r)) (none_passes (shows p) (sights (assigned m a r)) (of_rank (λ u. shows p u ≡ false) a r (each_fails (shows p) (sights (placed_cells m)) e))))) (below n))
           ∙ sym (key-by_cells ∙ ap (option_map (λ (t : Sight). t.key)) (find-none (shows p) (sights (placed_cells m)) e))
+
+-- ---- the own key
+
+-- the keys of chosen cells rise
+chosen-rise : (q : ℕ × Cell → Bool) (n : ℕ) (cells : List Cell) → Rises (64 * n) (64 * (n + length cells)) (sights (filter q (enumerate_from n cells)))
+chosen-rise q n [] = omega arith
+chosen-rise q n (cell ∷ cells) = go (q (n, cell)) (chosen-rise q (n + 1) cells)
+  where
+    rest : List (ℕ × Cell)
+    rest = filter q (enumerate_from (n + 1) cells)
+
+    go : (b : Bool) → Rises (64 * (n + 1)) (64 * (n + 1 + length cells)) (sights rest) → Rises (64 * n) (64 * (n + length (cell ∷ cells))) (sights (cond b ((n, cell) ∷ rest) rest))
+    go true r =
+        rises-append (64 * n) (64 * n + 64) (64 * (n + length (cell ∷ cells))) (sights_of (n, cell)) (sights rest) (sights_of-rise n cell)
+        (rises-wider (64 * (n + 1)) (64 * n + 64) (64 * (n + 1 + length cells)) (64 * (n + length (cell ∷ cells))) (sights rest) (omega arith) (omega arith) r)
+    go false r = rises-wider (64 * (n + 1)) (64 * n) (64 * (n + 1 + length cells)) (64 * (n + length (cell ∷ cells))) (sights rest) (omega arith) (omega arith) r
+
+-- no assigned cell of a rank sees the point under a lesser key than the rank's own one
+pub own-least : (m : Mesh) (a : List ℕ) (r : ℕ) (p : Point) (s : Sight) → Contains (sights (assigned m a r)) s → shows p s ≡ true → (k : ℕ) × (own_key m a r p ≡ Some k) × (k ≤ s.key)
+unfolding own_key assigned
+own-least m a r p s (i, low, at) shown =
+    let found = found-least p (64 * 0) (64 * (0 + length m.cells)) (sights (assigned m a r)) s (chosen-rise (λ c. rank_of a c == r) 0 m.cells) i low (ap (shows p) at ∙ shown) in
+    (found.0.key, ap (option_map (λ (t : Sight). t.key)) found.1, omega (arith, found.2, ap (λ (t : Sight). t.key) at))

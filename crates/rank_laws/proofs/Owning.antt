@@ -1,5 +1,5 @@
 -- What ranks hold and own.
-use Rattle.std.proofs.Common.{Contains, length, ◌+◌, append-nil, IsPermutation, nat_lt, ◌≡◌, ℕ, zero, suc, ◌<◌, Bool, true, false, cond, not, ◌&&◌, ◌||◌, ◌==◌, List, [], ◌∷◌, ◌++◌, map, refl, sym, ap, ap₂, ◌∙◌, subst, ⊎_elim, arith}
+use Rattle.std.proofs.Common.{◌≤◌, fold, min, Contains, length, ◌+◌, append-nil, IsPermutation, nat_lt, ◌≡◌, ℕ, zero, suc, ◌<◌, Bool, true, false, cond, not, ◌&&◌, ◌||◌, ◌==◌, List, [], ◌∷◌, ◌++◌, map, refl, sym, ap, ap₂, ◌∙◌, subst, ⊎_elim, arith}
 use Rattle.std.specs.Prelude.{flat_map, unwrap_or}
 use Rattle.std.specs.List.{list_any, AllByRecursion, filter, enumerate_from}
 use Rattle.std.proofs.lemmas.List.Sorted.{IsPermutation-refl, IsPermutation-trans, IsPermutation-append, IsPermutation-filter_both}
@@ -14,7 +14,7 @@ use Rattle.mesh_defs.specs.Diagram.{strata, chart}
 use Rattle.mesh_laws.proofs.Places.{all_at, all_map, all_filter, filter_passing, flat_map_same, all_from, filter_whole, any_map, any_weaker, any_same, all_weaker}
 use Rattle.rank_defs.specs.Ranks.{IsAssignment, least, rank_of, assigned, touches, layer, held_cells, held, ranks_at, owner, owned}
 use Rattle.rank_laws.specs.Conditions.{UsesVertices, in_some}
-use Rattle.rank_laws.proofs.Lists.{and_implied, any_filter, filter_within, filter_agree, filter_filter, stands, any_implied, least-among}
+use Rattle.rank_laws.proofs.Lists.{and_implied, any_filter, filter_within, filter_agree, filter_filter, stands, any_implied, least-among, least-bound}
 
 -- an assigned cell of a rank contains a point just where the rank is one of those at the point
 pub in_assigned : (m : Mesh) (a : List ℕ) (r : ℕ) (p : Point) → in_some p (assigned m a r) ≡ list_any (λ q. q == r) (ranks_at m a p)
@@ -41,6 +41,19 @@ owner-at m a p h = go (filter (λ (c : ℕ × Cell). contains c.1 p) (placed_cel
 
     any_true : (cells : List (ℕ × Cell)) → in_some p cells ≡ true → list_any (λ (c : ℕ × Cell). true) (filter (λ (c : ℕ × Cell). contains c.1 p) cells) ≡ true
     any_true cells e = any_filter (λ (c : ℕ × Cell). true) (λ (c : ℕ × Cell). contains c.1 p) cells ∙ any_weaker (λ (c : ℕ × Cell). contains c.1 p) (λ (c : ℕ × Cell). contains c.1 p && true) (λ c t. and_from (contains c.1 p) true t refl) cells e
+
+-- no rank at a point is below its owner
+pub owner-least : (m : Mesh) (a : List ℕ) (r : ℕ) (p : Point) → in_some p (assigned m a r) ≡ true → owner m a p ≤ r
+unfolding owner
+owner-least m a r p h = go (ranks_at m a p) (sym (in_assigned m a r p) ∙ h)
+  where
+    low : (k : ℕ) (xs : List ℕ) → AllByRecursion (λ y. k ≤ y) xs → list_any (λ q. q == r) xs ≡ true → k ≤ r
+    low k [] b e = absurd (cc e)
+    low k (x ∷ xs) b e = ⊎_elim (λ c. let is = eqb-true x r c in omega (arith, b.0)) (λ c. low k xs b.1 c) (or_cases (x == r) (list_any (λ q. q == r) xs) e)
+
+    go : (xs : List ℕ) → list_any (λ q. q == r) xs ≡ true → unwrap_or (least xs) 0 ≤ r
+    go [] e = absurd (cc e)
+    go (x ∷ xs) e = low (fold min x xs) (x ∷ xs) (least-bound x xs) e
 
 -- the owner of a point has an assigned cell that contains it
 pub owner-assigned : (m : Mesh) (a : List ℕ) (p : Point) → in_some p (placed_cells m) ≡ true → in_some p (assigned m a (owner m a p)) ≡ true

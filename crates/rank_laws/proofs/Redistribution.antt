@@ -1,24 +1,22 @@
 -- Redistributions one after another are one redistribution.
-use Rattle.std.proofs.Common.{◌≡◌, ℕ, zero, suc, ◌+◌, ◌<◌, ◌≤◌, ◌&&◌, Bool, true, false, cond, not, ◌||◌, ◌==◌, List, [], ◌∷◌, ◌++◌, map, length, get_or, Option, Some, None, refl, sym, ap, ◌∙◌, subst, ⊎_elim, arith, zero-add}
+use Rattle.std.proofs.Common.{◌≡◌, ℕ, ◌+◌, Bool, true, false, cond, not, ◌||◌, ◌==◌, List, [], ◌∷◌, map, length, Option, Some, refl, sym, ap, ◌∙◌, arith, zero-add}
 use Rattle.std.specs.Prelude.{find, option_map, filter_map}
 use Rattle.std.specs.List.{list_any, position_or_len, AllByRecursion, filter, enumerate_from, cons_option}
-use Rattle.std.proofs.lemmas.Bool.{and_from, eq-eqb, eqb-true, ne_eqb, cond-true, cond-false, cases_lt}
-use Rattle.std.proofs.lemmas.List.{map-append, length-map}
+use Rattle.std.proofs.lemmas.Bool.{eq-eqb, ne_eqb, cond-true, cond-false}
 use Rattle.mesh_defs.specs.Lists.{below}
-use Rattle.mesh_defs.specs.Mesh.{Mesh, Cell, placed_cells}
-use Rattle.mesh_defs.specs.Points.{Point, Sight, point_of, shows, contains}
-use Rattle.mesh_defs.specs.Diagram.{strata, chart, place_in}
-use Rattle.mesh_laws.proofs.Places.{any_weaker, all_both, all_weaker, all_from, all_map, all_enumerated, all_filter, map_map_same, filter_passing}
-use Rattle.mesh_laws.proofs.Containing.{length-below}
-use Rattle.mesh_laws.proofs.Firsts.{shows-true, shown_itself}
-use Rattle.rank_defs.specs.declared.Leaf.{Leaf}
-use Rattle.rank_defs.specs.Forest.{Forest, leaf, root_at, leaves_on, root_of, through, compose}
-use Rattle.rank_defs.specs.Ranks.{IsAssignment, assigned, held_cells, held, owner}
+use Rattle.mesh_defs.specs.Mesh.{Mesh, placed_cells}
+use Rattle.mesh_defs.specs.Points.{Point, Sight, point_of, shows}
+use Rattle.mesh_defs.specs.Diagram.{strata, place_in}
+use Rattle.mesh_laws.proofs.Places.{all_weaker, all_from, all_map, all_enumerated, all_filter, map_map_same}
+use Rattle.mesh_laws.proofs.Firsts.{shows-true}
+use Rattle.rank_defs.specs.Forest.{leaf, root_at, root_of, through, compose}
+use Rattle.rank_defs.specs.Ranks.{IsAssignment, held, owner}
 use Rattle.rank_defs.specs.Spread.{charts, place_at_owner, leaves_at_owners, owned_places, migration_forest}
 use Rattle.rank_laws.specs.Conditions.{in_some}
-use Rattle.rank_laws.proofs.Lists.{any_filter, image-at, image-below}
+use Rattle.rank_laws.proofs.Lists.{image-at, image-below}
 use Rattle.rank_laws.proofs.Forests.{is_local}
-use Rattle.rank_laws.proofs.Owning.{held-are_cells, owner-assigned, owner-below}
+use Rattle.rank_laws.proofs.Owning.{owner-below}
+use Rattle.rank_laws.proofs.PointForests.{IsPoint, chart-points, owner-shows}
 
 -- ---- a point among the leaves of a chart
 
@@ -40,8 +38,7 @@ find-place p test passes n k (x ∷ xs) h e = go (shows p x) refl h e (find-plac
         → (t : Sight) × (find (λ (s : ℕ × Sight). s.0 == k) (cond (test (point_of x)) ((n, x) ∷ rest) rest) ≡ Some (k, t)) × (point_of t ≡ p)
     go true f g q r =
         let own = shows-true p x f in
-        let same : n ≡ k = omega arith in
-        (
+        let same : n ≡ k = omega arith in (
           x,
           ap (find (λ (s : ℕ × Sight). s.0 == k)) (cond-true (test (point_of x)) ((n, x) ∷ rest) rest (ap test (sym own) ∙ passes)) ∙ cond-true (n == k) (Some (n, x)) (find (λ (s : ℕ × Sight). s.0 == k) rest) (eq-eqb n k same) ∙ (λ i. Some (same i, x)),
           sym own,
@@ -67,7 +64,7 @@ filter_map-images f g h (x ∷ xs) e = ap (λ o. cons_option o (filter_map f (ma
 module _ (m : Mesh) (n : ℕ) (a b : List ℕ) (parts : IsAssignment m n b) where
   -- a point of some cell, by its place at its owner under b, looks up its place at its owner under a
   looked-up : (p : Point) → list_any (shows p) (strata m) ≡ true → in_some p (placed_cells m) ≡ true → root_of (migration_forest m a b n) (owner m b p) (place_in (held m b (owner m b p) 0) p) ≡ Some (place_at_owner m a (charts m a n 0) p)
-  unfolding root_of migration_forest charts held held_cells chart
+  unfolding root_of migration_forest charts
   looked-up p seen h =
       ap (λ ls. option_map root_at (find (is_local k) ls))
       (image-at [] (λ (r : ℕ × List Sight). leaves_at_owners m a old (owned_places m b r.0 r.1)) (λ j. refl) 0 (map (λ r. held m b r 0) (below n)) rank
@@ -85,8 +82,7 @@ module _ (m : Mesh) (n : ℕ) (a b : List ℕ) (parts : IsAssignment m n b) wher
       k = place_in (held m b rank 0) p
 
       there : list_any (shows p) (held m b rank 0) ≡ true
-      there = any_filter (shows p) (λ s. in_some (point_of s) (assigned m b rank)) (strata m)
-          ∙ any_weaker (shows p) (λ s. in_some (point_of s) (assigned m b rank) && shows p s) (λ s f. and_from (in_some (point_of s) (assigned m b rank)) (shows p s) (subst (λ q. in_some q (assigned m b rank) ≡ true) (shows-true p s f) (owner-assigned m b p h)) f) (strata m) seen
+      there = owner-shows m b 0 p seen h
 
       found : (t : Sight) × (find (λ (s : ℕ × Sight). s.0 == k) (owned_places m b rank (held m b rank 0)) ≡ Some (k, t)) × (point_of t ≡ p)
       found = find-place p (λ q. owner m b q == rank) (eq-eqb rank rank refl) 0 k (held m b rank 0) there (let e : k ≡ 0 + k = omega arith in e)
@@ -94,32 +90,20 @@ module _ (m : Mesh) (n : ℕ) (a b : List ℕ) (parts : IsAssignment m n b) wher
       found-is : (find (λ (s : ℕ × Sight). s.0 == k) (owned_places m b rank (held m b rank 0)) ≡ Some (k, found.0)) × (point_of found.0 ≡ p)
       found-is = (found.1, found.2)
 
-  -- what a point of any chart has: the chart of all points shows it, and some cell contains it
-  abbrev InMesh : Sight → Type 0
-  InMesh s = (list_any (shows (point_of s)) (strata m) ≡ true) × (in_some (point_of s) (placed_cells m) ≡ true)
-
-  -- all points of a chart have it
-  chart-in_mesh : (c : List ℕ) (r : ℕ) → AllByRecursion InMesh (held m c r 0)
-  unfolding held held_cells chart
-  chart-in_mesh c r = all_both (λ s. list_any (shows (point_of s)) (strata m) ≡ true) (λ s. in_some (point_of s) (assigned m c r) ≡ true) InMesh (λ s e f. (e, held-are_cells m c r 0 (λ (d : ℕ × Cell). contains d.1 (point_of s)) f))
-      (filter (λ s. in_some (point_of s) (assigned m c r)) (strata m))
-      (all_filter (λ s. list_any (shows (point_of s)) (strata m) ≡ true) (λ s. in_some (point_of s) (assigned m c r)) (strata m) (shown_itself (strata m)))
-      (filter_passing (λ s. in_some (point_of s) (assigned m c r)) (strata m))
-
   -- a redistribution from a to b and one from b to c are the redistribution from a to c
   pub migrations-compose : (c : List ℕ) → compose (migration_forest m a b n) (migration_forest m b c n) ≡ migration_forest m a c n
   unfolding compose migration_forest charts
   migrations-compose c = λ i. record {
     roots = map length (map (λ r. held m a r 0) (below n));
     leaves = map_map_same (filter_map (through (migration_forest m a b n))) (λ (r : ℕ × List Sight). leaves_at_owners m b (charts m b n 0) (owned_places m c r.0 r.1)) (λ (r : ℕ × List Sight). leaves_at_owners m a (charts m a n 0) (owned_places m c r.0 r.1)) (enumerate_from 0 (charts m c n 0))
-        (all_weaker (λ (r : ℕ × List Sight). AllByRecursion InMesh r.1) (λ (r : ℕ × List Sight). filter_map (through (migration_forest m a b n)) (leaves_at_owners m b (charts m b n 0) (owned_places m c r.0 r.1)) ≡ leaves_at_owners m a (charts m a n 0) (owned_places m c r.0 r.1)) rank
-        (enumerate_from 0 (charts m c n 0)) (all_enumerated (AllByRecursion InMesh) 0 (charts m c n 0) (all_map (AllByRecursion InMesh) (λ r. held m c r 0) (below n) (all_from _ (λ r. chart-in_mesh c r) (below n))))) i;
+        (all_weaker (λ (r : ℕ × List Sight). AllByRecursion (IsPoint m) r.1) (λ (r : ℕ × List Sight). filter_map (through (migration_forest m a b n)) (leaves_at_owners m b (charts m b n 0) (owned_places m c r.0 r.1)) ≡ leaves_at_owners m a (charts m a n 0) (owned_places m c r.0 r.1)) rank
+        (enumerate_from 0 (charts m c n 0)) (all_enumerated (AllByRecursion (IsPoint m)) 0 (charts m c n 0) (all_map (AllByRecursion (IsPoint m)) (λ r. held m c r 0) (below n) (all_from _ (λ r. chart-points m c r 0) (below n))))) i;
   }
     where
-      one : (s : ℕ × Sight) → InMesh s.1 → through (migration_forest m a b n) (leaf s.0 (place_at_owner m b (charts m b n 0) (point_of s.1))) ≡ Some (leaf s.0 (place_at_owner m a (charts m a n 0) (point_of s.1)))
+      one : (s : ℕ × Sight) → IsPoint m s.1 → through (migration_forest m a b n) (leaf s.0 (place_at_owner m b (charts m b n 0) (point_of s.1))) ≡ Some (leaf s.0 (place_at_owner m a (charts m a n 0) (point_of s.1)))
       one s (seen, h) = ap (option_map (leaf s.0)) (ap (λ l. root_of (migration_forest m a b n) (owner m b (point_of s.1)) (place_in l (point_of s.1))) (image-below (λ r. held m b r 0) [] n (owner m b (point_of s.1)) (owner-below m n b parts (point_of s.1) h)) ∙ looked-up (point_of s.1) seen h)
 
-      rank : (r : ℕ × List Sight) → AllByRecursion InMesh r.1 → filter_map (through (migration_forest m a b n)) (leaves_at_owners m b (charts m b n 0) (owned_places m c r.0 r.1)) ≡ leaves_at_owners m a (charts m a n 0) (owned_places m c r.0 r.1)
+      rank : (r : ℕ × List Sight) → AllByRecursion (IsPoint m) r.1 → filter_map (through (migration_forest m a b n)) (leaves_at_owners m b (charts m b n 0) (owned_places m c r.0 r.1)) ≡ leaves_at_owners m a (charts m a n 0) (owned_places m c r.0 r.1)
       rank r h = filter_map-images (through (migration_forest m a b n)) (λ s. leaf s.0 (place_at_owner m b (charts m b n 0) (point_of s.1))) (λ s. leaf s.0 (place_at_owner m a (charts m a n 0) (point_of s.1))) (owned_places m c r.0 r.1)
-          (all_weaker (λ (s : ℕ × Sight). InMesh s.1) (λ s. through (migration_forest m a b n) (leaf s.0 (place_at_owner m b (charts m b n 0) (point_of s.1))) ≡ Some (leaf s.0 (place_at_owner m a (charts m a n 0) (point_of s.1)))) one (owned_places m c r.0 r.1)
-          (all_filter (λ (s : ℕ × Sight). InMesh s.1) (λ s. owner m c (point_of s.1) == r.0) (enumerate_from 0 r.1) (all_enumerated InMesh 0 r.1 h)))
+          (all_weaker (λ (s : ℕ × Sight). IsPoint m s.1) (λ s. through (migration_forest m a b n) (leaf s.0 (place_at_owner m b (charts m b n 0) (point_of s.1))) ≡ Some (leaf s.0 (place_at_owner m a (charts m a n 0) (point_of s.1)))) one (owned_places m c r.0 r.1)
+          (all_filter (λ (s : ℕ × Sight). IsPoint m s.1) (λ s. owner m c (point_of s.1) == r.0) (enumerate_from 0 r.1) (all_enumerated (IsPoint m) 0 r.1 h)))

@@ -1,5 +1,5 @@
 -- The points of a mesh stand in its chart once each, as they are first seen.
-use Rattle.std.proofs.Common.{◌≡◌, ◌≢◌, ℕ, zero, suc, ◌<◌, Bool, true, false, cond, not, ◌&&◌, ◌||◌, ◌==◌, List, [], ◌∷◌, ◌++◌, map, length, Option, Some, None, Contains, refl, sym, ap, ◌∙◌, subst, inl, inr, ◌⊎◌, ⊎_elim, arith}
+use Rattle.std.proofs.Common.{◌≡◌, ◌≢◌, ℕ, zero, suc, ◌<◌, Bool, true, false, cond, not, ◌||◌, ◌==◌, List, [], ◌∷◌, ◌++◌, map, length, Some, Contains, refl, sym, ap, ◌∙◌, inl, inr, arith}
 use Rattle.std.specs.Prelude.{find, option_map}
 use Rattle.std.specs.List.{list_any, AllByRecursion, filter}
 use Rattle.std.proofs.lemmas.Bool.{eq-eqb, eqb-true, ne_eqb, and_left, and_parts, and_from, or_parts, cond-true, cond-false, both_ways, not-true}
@@ -9,11 +9,11 @@ use Rattle.std.proofs.lemmas.List.Folds.{list_any-append}
 use Rattle.mesh_defs.specs.Lists.{below, same_list, sorted}
 use Rattle.mesh_defs.specs.Tables.{dim_of}
 use Rattle.mesh_defs.specs.Mesh.{Mesh, placed_cells}
-use Rattle.mesh_defs.specs.Points.{Point, Sight, point_of, shows, sights, vertex_sight, vertex_sights, first_sight, key, arrangement}
+use Rattle.mesh_defs.specs.Points.{Sight, point_of, shows, sights, vertex_sight, vertex_sights, first_sight, key, arrangement}
 use Rattle.mesh_defs.specs.Diagram.{firsts_after, firsts, stratum, strata}
 use Rattle.mesh_laws.specs.TriangleMesh.{points_differ}
 use Rattle.mesh_laws.proofs.Places.{all_both, all_weaker, all_from, all_append, all_map, each_fails, none_passes, filter_passing, find-append_found, find-append_none}
-use Rattle.mesh_laws.proofs.Firsts.{same_point-sym, shows-own, shown_itself, find-firsts, firsts-all}
+use Rattle.mesh_laws.proofs.Firsts.{same_point-sym, shows-own, find-firsts, firsts-all}
 use Rattle.mesh_laws.proofs.Containing.{below-all, shows-vertex}
 use Rattle.rank_laws.specs.Conditions.{IsFlatOrSolid}
 
@@ -121,8 +121,7 @@ strata-differ m (inr solid) = ap (λ b. points_differ (stratum m m.dim ++ stratu
 found-itself : (ss : List Sight) → points_differ ss ≡ true → AllByRecursion (λ s. find (shows (point_of s)) ss ≡ Some s) ss
 found-itself [] d = tt
 found-itself (x ∷ xs) d =
-    let both = and_parts (not (list_any (shows (point_of x)) xs)) (points_differ xs) d in
-    (
+    let both = and_parts (not (list_any (shows (point_of x)) xs)) (points_differ xs) d in (
       cond-true (shows (point_of x) x) (Some x) (find (shows (point_of x)) xs) (shows-own x),
       all_both (λ t. shows (point_of x) t ≡ false) (λ t. find (shows (point_of t)) xs ≡ Some t) (λ t. find (shows (point_of t)) (x ∷ xs) ≡ Some t)
           (λ t e f. cond-false (shows (point_of t) x) (Some x) (find (shows (point_of t)) xs) (same_point-sym (point_of t) (point_of x) ∙ e) ∙ f) xs (each_fails (shows (point_of x)) xs (not-true _ both.0)) (found-itself xs both.1),

@@ -3,15 +3,17 @@
 //! Each function below does nothing: its contract is the law, and its proof is the law's.
 #![tactic(auto)]
 
-ghost use Rattle.std.specs.Prelude.{◌≡◌, ◌≢◌, ◌↔◌, ◌==◌, ◌<◌, ℕ, ◌+◌, List, None, Some, Option, Contains, IsPermutation, filter, filter_map, flat_map, option_and_then, true};
+ghost use Rattle.std.specs.Prelude.{◌≡◌, ◌≢◌, ◌↔◌, ◌==◌, ◌<◌, ◌≤◌, ℕ, ◌+◌, List, None, Some, Option, Contains, IsPermutation, length, map, slice_index, slice_index_or, filter, filter_map, flat_map, option_and_then, true};
 ghost use Rattle.mesh_defs.specs.Lists.{below};
 ghost use Rattle.mesh_defs.specs.Mesh.{Mesh, placed_cells};
-ghost use Rattle.mesh_defs.specs.Points.{Point, Sight, point_of, key, arrangement};
+ghost use Rattle.mesh_defs.specs.Points.{Point, Sight, point_of, shows, sights, key, arrangement};
 ghost use Rattle.mesh_defs.specs.Diagram.{strata};
 ghost use Rattle.mesh_laws.specs.TriangleMesh.{points_differ};
-ghost use Rattle.rank_defs.specs.Forest.{Forest, IsForest, MeansSame, FitsLocals, root_of, compose, invert, shared_root};
-ghost use Rattle.rank_defs.specs.Ranks.{IsAssignment, least, held_cells, held, owner, owned, own_key};
-ghost use Rattle.rank_defs.specs.Spread.{migration_forest};
+ghost use Rattle.rank_defs.specs.Forest.{Forest, IsForest, root_at, leaves_on, MeansSame, FitsLocals, root_of, compose, invert, shared_root};
+ghost use Rattle.rank_defs.specs.Ranks.{IsAssignment, least, assigned, held_cells, held, owner, owned, own_key};
+ghost use Rattle.rank_defs.specs.Spread.{charts, point_forest, migration_forest, trace};
+ghost use Rattle.rank_defs.specs.Home.{home_points, IsHomeRound};
+ghost use Rattle.rank_defs.specs.Rounds.{Round};
 ghost use Rattle.rank_laws.specs.Conditions.{UsesVertices, IsFlatOrSolid, in_some};
 
 // ---- points
@@ -27,6 +29,11 @@ pub fn points_stand_once()
 {}
 
 // ---- what ranks hold and own
+
+/// The owner of a point is no more than any rank with an assigned cell that contains the point.
+pub fn owner_is_the_least_rank()
+    ensures { (m : Mesh) (a : List ℕ) (r : ℕ) (p : Point) → in_some p (assigned m a r) ≡ true → owner m a p ≤ r }
+{}
 
 /// The owner of a point that stands in some cell is one of the ranks.
 pub fn owners_are_ranks()
@@ -53,13 +60,39 @@ pub fn owned_points_keep_their_order()
     ensures { (m : Mesh) (a : List ℕ) (r : ℕ) (k : ℕ) → filter (λ s. owner m a (point_of s) == r) (held m a r k) ≡ owned m a r }
 {}
 
+/// A rank's own key for a face or an edge is the least key under which its assigned cells see it.
+pub fn own_key_is_least()
+    ensures { (m : Mesh) (a : List ℕ) (r : ℕ) (p : Point) (s : Sight) → Contains (sights (assigned m a r)) s → shows p s ≡ true → (k : ℕ) × (own_key m a r p ≡ Some k) × (k ≤ s.key) }
+{}
+
 /// The key of a face or an edge is the least of the ranks' own least keys.
 pub fn key_is_the_least_own_key()
     ensures { (m : Mesh) (n : ℕ) (a : List ℕ) (p : Point) → p.dim ≢ 0 → IsAssignment m n a → least (filter_map (λ r. own_key m a r p) (below n)) ≡ key m p }
 {}
 
-/// A redistribution from a to b and then one from b to c are the redistribution from a to c. Where a is the first
-/// assignment, the root of each leaf is the trace of the leaf's point.
+/// After every legal home round the last value of each word is the key of the word's point.
+pub fn home_round_gives_the_keys()
+    ensures { (m : Mesh) (n : ℕ) (a : List ℕ) (r : Round) → IsAssignment m n a → IsHomeRound m a n r → (w : ℕ) (d : Point) → w < length (home_points m a n) → key m (slice_index_or (home_points m a n) w d) ≡ Some (slice_index r.after w) }
+{}
+
+// ---- forests of points
+
+/// The forest of shared points is a forest: ghosts have places of their own, and their roots are there.
+pub fn point_forests_are_forests()
+    ensures { (m : Mesh) (n : ℕ) (a : List ℕ) (k : ℕ) → IsAssignment m n a → IsForest (point_forest m a (charts m a n k)) }
+{}
+
+/// The forest of a redistribution is a forest.
+pub fn redistributions_are_forests()
+    ensures { (m : Mesh) (n : ℕ) (a : List ℕ) (b : List ℕ) → IsAssignment m n a → IsForest (migration_forest m a b n) }
+{}
+
+/// In the forest of a redistribution from the first assignment the roots of a rank's leaves are the traces of its owned points.
+pub fn roots_are_traces()
+    ensures { (m : Mesh) (n : ℕ) (a : List ℕ) (b : List ℕ) (r : ℕ) → r < n → map root_at (leaves_on (migration_forest m a b n) r) ≡ map (λ s. trace m a n (point_of s)) (owned m b r) }
+{}
+
+/// A redistribution from a to b and then one from b to c are the redistribution from a to c.
 pub fn redistributions_compose()
     ensures { (m : Mesh) (n : ℕ) (a : List ℕ) (b : List ℕ) (c : List ℕ) → IsAssignment m n b → compose (migration_forest m a b n) (migration_forest m b c n) ≡ migration_forest m a c n }
 {}
