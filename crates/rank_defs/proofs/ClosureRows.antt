@@ -1,4 +1,4 @@
--- Worked rows: supports, a star and a closure of two triangles on one rank; a section and a label.
+-- Worked rows: supports, stars and closures of two triangles and two tetrahedra on one rank; a section and a label.
 use Rattle.std.proofs.Common.{◌≡◌, ℕ, List, [], ◌∷◌, map, ℤ, pos, negsuc, refl}
 use Rattle.std.specs.Prelude.{sum}
 use Rattle.mesh_defs.specs.declared.ConeEntry.{ConeEntry}
@@ -10,7 +10,7 @@ use Rattle.mesh_defs.specs.Diagram.{Diagram, stratum, strata, chart, seen_under,
 use Rattle.rank_defs.specs.Closure.{support, closure, star, arrangements}
 use Rattle.rank_defs.specs.Labels.{label_of, points_with, values_at}
 use Rattle.rank_defs.specs.Fields.{offset}
-use Rattle.rank_defs.proofs.Meshes.{two_triangles}
+use Rattle.rank_defs.proofs.Meshes.{two_triangles, two_tetrahedra}
 
 abbrev drawn : Diagram
 drawn = diagram two_triangles (placed_cells two_triangles)
@@ -38,6 +38,28 @@ closures_of_cells : map (λ c. closure drawn lists c (pos 0)) (0 ∷ 1 ∷ [])
     ∷ (at 1 (pos 0) ∷ at 9 (pos 0) ∷ at 10 (pos 0) ∷ at 7 (negsuc 0) ∷ at 3 (pos 0) ∷ at 5 (pos 0) ∷ at 4 (pos 0) ∷ []) ∷ []
 unfolding sorted rotations reflections orientations corners_under act relative sights_of first_sight key arrangement contains stratum strata chart seen_under entry cone diagram closure
 closures_of_cells = refl
+
+-- ---- three levels: two tetrahedra
+
+abbrev solid : Diagram
+solid = diagram two_tetrahedra (placed_cells two_tetrahedra)
+
+abbrev solid_lists : List (List ℕ)
+solid_lists = arrangements (chart two_tetrahedra (placed_cells two_tetrahedra))
+
+-- four faces as they are, six edges as the faces see them first, and four vertices
+closure_of_a_tetrahedron : closure solid solid_lists 0 (pos 0)
+    ≡ at 0 (pos 0)
+    ∷ at 7 (pos 0) ∷ at 8 (pos 0) ∷ at 9 (pos 0) ∷ at 10 (pos 0)
+    ∷ at 16 (negsuc 0) ∷ at 15 (negsuc 0) ∷ at 14 (negsuc 0) ∷ at 18 (pos 0) ∷ at 17 (negsuc 0) ∷ at 19 (pos 0)
+    ∷ at 2 (pos 0) ∷ at 4 (pos 0) ∷ at 3 (pos 0) ∷ at 5 (pos 0) ∷ []
+unfolding sorted rotations reflections orientations corners_under act relative sights_of first_sight key arrangement contains stratum strata chart seen_under entry cone diagram closure
+closure_of_a_tetrahedron = refl
+
+-- both cells, five faces and four edges have the vertex 3
+star_in_two_tetrahedra : star solid solid_lists 5 ≡ 0 ∷ 1 ∷ 5 ∷ 8 ∷ 9 ∷ 10 ∷ 12 ∷ 13 ∷ 17 ∷ 18 ∷ 19 ∷ 22 ∷ []
+unfolding sorted rotations reflections orientations corners_under act relative sights_of first_sight key arrangement contains stratum strata chart seen_under entry cone diagram closure star
+star_in_two_tetrahedra = refl
 
 -- three points with one, none and two words
 section_of_three_points : (map (offset (1 ∷ 0 ∷ 2 ∷ [])) (0 ∷ 1 ∷ 2 ∷ []) ≡ 0 ∷ 1 ∷ 1 ∷ []) × (sum (1 ∷ 0 ∷ 2 ∷ []) ≡ 3)

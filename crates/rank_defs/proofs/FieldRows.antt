@@ -1,5 +1,5 @@
 -- Worked rows: labels and fields of the points of small meshes.
-use Rattle.std.proofs.Common.{◌≡◌, ℕ, ◌-◌, ◌*◌, ◌^◌, List, [], ◌∷◌, map, ℤ, pos, negsuc, refl}
+use Rattle.std.proofs.Common.{◌≡◌, ℕ, ◌-◌, ◌*◌, ◌^◌, List, [], ◌∷◌, map, ℤ, pos, negsuc, Option, Some, None, refl}
 use Rattle.mesh_defs.specs.declared.Poly.TheVariants.{Triangle}
 use Rattle.mesh_defs.specs.declared.Place.TheVariants.{Node, Element}
 use Rattle.mesh_defs.specs.Lists.{sorted, below}
@@ -8,6 +8,8 @@ use Rattle.mesh_defs.specs.Points.{Sight, sights_of, contains}
 use Rattle.mesh_defs.specs.Diagram.{stratum, strata, chart}
 use Rattle.rank_defs.specs.Labels.{mesh_label}
 use Rattle.rank_defs.specs.Fields.{row_values, data_words, dof_words, fields, words_at}
+use Rattle.rank_defs.specs.Ranks.{assigned, held_cells, held, ranks_at, owner}
+use Rattle.rank_defs.specs.Spread.{LocalMesh, local_mesh, plain_dist, ScatterPart, scatter_part, plain_scatter}
 use Rattle.rank_defs.proofs.Meshes.{bare, two_triangles}
 
 abbrev one_triangle : Mesh
@@ -52,3 +54,40 @@ dofs_on_points = refl
 own_words : map (words_at (1 ∷ 0 ∷ 2 ∷ []) (7 ∷ 8 ∷ 9 ∷ [])) (0 ∷ 1 ∷ 2 ∷ []) ≡ (7 ∷ []) ∷ [] ∷ (8 ∷ 9 ∷ []) ∷ []
 unfolding words_at
 own_words = refl
+
+-- ---- labels and fields over two ranks
+
+-- two triangles: the shared edge is marked, and vertex 1 and cell 1 have data
+abbrev marked_triangles : Mesh
+marked_triangles = record two_triangles {
+  marks = mark 1 (2 ∷ 1 ∷ []) (pos 7) ∷ mark 2 (1 ∷ 3 ∷ 2 ∷ []) (pos 4) ∷ [];
+  fields = record { on = Node; name = []; comps = 1; rows = row 1 (pos 5 ∷ []) ∷ [] } ∷ record { on = Element; name = []; comps = 1; rows = row 1 (pos 9 ∷ []) ∷ [] } ∷ [];
+}
+
+-- what a rank has of labels and fields, with a word at each vertex
+abbrev carried : LocalMesh → List (List (ℕ × ℤ)) × List (List (List ℕ))
+carried l = (l.labels, l.fields)
+
+-- both copies of a point have the same: the edge is point 5 on rank 0 and point 4 on rank 1
+labels_and_fields_over_ranks : map carried (plain_dist marked_triangles ((1 ∷ 0 ∷ 0 ∷ 0 ∷ []) ∷ []) (0 ∷ 1 ∷ []) 2 0).locals
+    ≡ (
+      [] ∷ ((5, pos 7) ∷ []) ∷ [] ∷ [] ∷ [],
+      ([] ∷ [] ∷ (5 ∷ []) ∷ [] ∷ [] ∷ [] ∷ [] ∷ []) ∷ ([] ∷ [] ∷ [] ∷ [] ∷ [] ∷ [] ∷ [] ∷ []) ∷ ([] ∷ (1 ∷ []) ∷ (3 ∷ []) ∷ (3 ∷ []) ∷ [] ∷ [] ∷ [] ∷ []) ∷ [],
+    )
+    ∷ (
+      [] ∷ ((4, pos 7) ∷ []) ∷ ((0, pos 4) ∷ []) ∷ [] ∷ [],
+      ([] ∷ (5 ∷ []) ∷ [] ∷ [] ∷ [] ∷ [] ∷ [] ∷ []) ∷ ((9 ∷ []) ∷ [] ∷ [] ∷ [] ∷ [] ∷ [] ∷ [] ∷ []) ∷ ([] ∷ (3 ∷ []) ∷ (3 ∷ []) ∷ (2 ∷ []) ∷ [] ∷ [] ∷ [] ∷ []) ∷ [],
+    ) ∷ []
+unfolding sorted sights_of contains stratum strata chart mesh_label row_values data_words dof_words fields assigned held_cells held ranks_at owner local_mesh plain_dist
+labels_and_fields_over_ranks = refl
+
+-- of what a rank is given, the marks and the rows of its vertices and cells
+abbrev given : ScatterPart → List Mark × List (List (Option (List ℤ)))
+given part = (part.marks, part.rows)
+
+-- the mark of the edge goes to both ranks, and each row to those that have its vertex or cell
+marks_and_rows_over_ranks : map given (plain_scatter marked_triangles [] (0 ∷ 1 ∷ []) 2).parts
+    ≡ (mark 1 (2 ∷ 1 ∷ []) (pos 7) ∷ [], (None ∷ Some (pos 5 ∷ []) ∷ None ∷ []) ∷ (None ∷ []) ∷ [])
+    ∷ (mark 1 (2 ∷ 1 ∷ []) (pos 7) ∷ mark 2 (1 ∷ 3 ∷ 2 ∷ []) (pos 4) ∷ [], (Some (pos 5 ∷ []) ∷ None ∷ None ∷ []) ∷ (Some (pos 9 ∷ []) ∷ []) ∷ []) ∷ []
+unfolding sorted sights_of contains stratum strata chart row_values assigned ranks_at owner scatter_part plain_scatter
+marks_and_rows_over_ranks = refl

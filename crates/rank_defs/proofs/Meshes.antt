@@ -1,7 +1,7 @@
 -- The meshes of the worked rows.
 use Rattle.std.proofs.Common.{ℕ, ◌^◌, ◌+◌, List, [], ◌∷◌, map, ℤ, pos, replicate, get_or}
 use Rattle.mesh_defs.specs.declared.Poly.{Poly}
-use Rattle.mesh_defs.specs.declared.Poly.TheVariants.{Triangle, Quad, Hex}
+use Rattle.mesh_defs.specs.declared.Poly.TheVariants.{Triangle, Quad, Tet, Hex}
 use Rattle.mesh_defs.specs.Lists.{below}
 use Rattle.mesh_defs.specs.Mesh.{Mesh}
 
@@ -30,6 +30,10 @@ two_triangles_at v = get_or ((pos 0 ∷ pos 0 ∷ pos 0 ∷ []) ∷ (unit ∷ po
 -- two triangles that share an edge
 abbrev pub two_triangles : Mesh
 two_triangles = record (bare 2 4 Triangle ((0 ∷ 1 ∷ 2 ∷ []) ∷ (1 ∷ 3 ∷ 2 ∷ []) ∷ [])) { at = map two_triangles_at (below 4) }
+
+-- two tetrahedra that share a face
+abbrev pub two_tetrahedra : Mesh
+two_tetrahedra = bare 3 5 Tet ((0 ∷ 1 ∷ 2 ∷ 3 ∷ []) ∷ (1 ∷ 2 ∷ 3 ∷ 4 ∷ []) ∷ [])
 
 -- two hexahedra that see their shared face with two corners swapped
 abbrev pub twisted_hexahedra : Mesh
