@@ -105,9 +105,13 @@ invert f roots = record {
   leaves = map (λ r. filter_map (λ i. option_map (leaf i) (leaf_of f r.0 i)) (below r.1)) (enumerate_from 0 f.roots);
 }
 
+-- the root is one of those that are kept, by rank and index
+abbrev pub is_kept : List (List Bool) → ℕ × ℕ → Bool
+is_kept keep root = get_or (get_or keep root.0 []) root.1 false
+
 -- the same roots, and of the leaves those on the roots that are kept
 unfoldable pub embed_roots : Forest → List (List Bool) → Forest
-embed_roots f keep = record { roots = f.roots; leaves = map (filter (λ l. get_or (get_or keep l.rank []) l.index false)) f.leaves }
+embed_roots f keep = record { roots = f.roots; leaves = map (filter (λ l. is_kept keep (root_at l))) f.leaves }
 
 -- the entries whose place is kept
 abbrev pub kept : {X : Type 0} → List Bool → List X → List X

@@ -15,15 +15,15 @@ use Rattle.rank_defs.specs.Ranks.{owner, is_shared, owned, own_key}
 
 -- ---- points in the order of their vertices
 
--- a list stands before another one or is it; a list that begins another stands before it
-abbrev pub is_first : List ℕ → List ℕ → Bool
-is_first [] ys = true
-is_first (x ∷ xs) [] = false
-is_first (x ∷ xs) (y ∷ ys) = nat_lt x y || ((x == y) && is_first xs ys)
+-- a list stands before another one, or is it; a list that begins another stands before it
+abbrev pub precedes : List ℕ → List ℕ → Bool
+precedes [] ys = true
+precedes (x ∷ xs) [] = false
+precedes (x ∷ xs) (y ∷ ys) = nat_lt x y || ((x == y) && precedes xs ys)
 
 abbrev pub put_in_order : Point → List Point → List Point
 put_in_order p [] = p ∷ []
-put_in_order p (q ∷ qs) = if is_first p.vertices q.vertices then p ∷ q ∷ qs else q ∷ put_in_order p qs
+put_in_order p (q ∷ qs) = if precedes p.vertices q.vertices then p ∷ q ∷ qs else q ∷ put_in_order p qs
 
 -- the same points, by their rising vertices
 unfoldable pub by_vertices : List Point → List Point

@@ -19,7 +19,7 @@ use Rattle.rank_defs.specs.declared.Turn.{Turn}
 use Rattle.rank_defs.specs.Asks.{step, Entry, Replays, after_ask}
 use Rattle.rank_defs.specs.Rounds.{Round, entry_at, in_order, places_of, places_on}
 use Rattle.rank_defs.specs.Ranks.{IsAssignment, rank_of, assigned, ranks_at, owner, is_shared, own_key}
-use Rattle.rank_defs.specs.Home.{is_first, put_in_order, by_vertices, shared_points, home_points, home_words, home_asks, IsHomeRound}
+use Rattle.rank_defs.specs.Home.{precedes, put_in_order, by_vertices, shared_points, home_points, home_words, home_asks, IsHomeRound}
 use Rattle.rank_laws.specs.Conditions.{in_some}
 use Rattle.rank_laws.proofs.Lists.{any_filter, stands, least-some, find-cases, image-below}
 use Rattle.rank_laws.proofs.Owning.{owner-assigned, owner-below}
@@ -178,7 +178,7 @@ all-in_order P (p ∷ points) h = put p (by_vertices points) h.0 (all-in_order P
   where
     put : (q : Point) (qs : List Point) → P q → AllByRecursion P qs → AllByRecursion P (put_in_order q qs)
     put q [] x t = (x, tt)
-    put q (y ∷ ys) x t = go (is_first q.vertices y.vertices) (put q ys x t.1)
+    put q (y ∷ ys) x t = go (precedes q.vertices y.vertices) (put q ys x t.1)
       where
         go : (b : Bool) → AllByRecursion P (put_in_order q ys) → AllByRecursion P (cond b (q ∷ y ∷ ys) (y ∷ put_in_order q ys))
         go true r = (x, t)

@@ -272,7 +272,7 @@ chosen true o x h = (refl, h)
 chosen false o x h = absurd (cc h)
 
 -- a leaf that looks a root up has a local index among the roots of the inverse
-local-fits : (f : Forest) (roots : List ℕ) → FitsLocals f roots → (rank local : ℕ) (root : ℕ × ℕ) → root_of f rank local ≡ Some root → local < roots_on (invert f roots) rank
+pub local-fits : (f : Forest) (roots : List ℕ) → FitsLocals f roots → (rank local : ℕ) (root : ℕ × ℕ) → root_of f rank local ≡ Some root → local < roots_on (invert f roots) rank
 unfolding root_of invert
 local-fits f roots fits rank local root e = go (find (is_local local) (leaves_on f rank)) refl e
   where
@@ -283,11 +283,11 @@ local-fits f roots fits rank local root e = go (find (is_local local) (leaves_on
 
 module _ (f : Forest) (is_forest : IsForest f) where
   -- each leaf is found by its local index
-  forest-findable : (rank : ℕ) → Findable (leaves_on f rank) (leaves_on f rank)
+  pub forest-findable : (rank : ℕ) → Findable (leaves_on f rank) (leaves_on f rank)
   forest-findable rank = findable (leaves_on f rank) (sound f is_forest rank).differ
 
   -- the root that a leaf looks up is there
-  root-there : (rank local : ℕ) (root : ℕ × ℕ) → root_of f rank local ≡ Some root → root.1 < roots_on f root.0
+  pub root-there : (rank local : ℕ) (root : ℕ × ℕ) → root_of f rank local ≡ Some root → root.1 < roots_on f root.0
   unfolding root_of
   root-there rank local root e = go (find (is_local local) (leaves_on f rank)) refl e
     where

@@ -4,6 +4,7 @@ pub mod OwnKeys
 pub mod Strata
 pub mod Redistribution
 pub mod PointForests
+pub mod Kept
 pub mod HomeRound
 pub mod Forests
 pub mod Inverting

@@ -19,7 +19,7 @@ use Rattle.rank_laws.proofs.Owning.{held-are_cells, layers-have, owner-assigned,
 -- ---- leaves without a flaw
 
 -- the local indices rise from n on
-abbrev Rise : ℕ → List Leaf → Type 0
+abbrev pub Rise : ℕ → List Leaf → Type 0
 Rise n [] = Unit {0}
 Rise n (l ∷ ls) = (n ≤ l.local) × Rise (l.local + 1) ls
 
@@ -33,7 +33,7 @@ rising-sound roots rank earlier n i (l ∷ ls) e r h =
     ∙ rising-sound roots rank (l ∷ earlier) (l.local + 1) (i + 1) ls (omega arith, all_weaker (λ (x : Leaf). x.local < n) (λ (x : Leaf). x.local < l.local + 1) (λ x low. omega (arith, r.0)) earlier e) r.1 h.1
 
 -- where nothing is given for any of some lists, nothing is given first
-nothing-first : {X Y : Type 0} (h : ℕ × List X → Option Y) (n : ℕ) (xss : List (List X)) → AllByRecursion (λ xs. (k : ℕ) → h (k, xs) ≡ None) xss → first_some h (enumerate_from n xss) ≡ None
+pub nothing-first : {X Y : Type 0} (h : ℕ × List X → Option Y) (n : ℕ) (xss : List (List X)) → AllByRecursion (λ xs. (k : ℕ) → h (k, xs) ≡ None) xss → first_some h (enumerate_from n xss) ≡ None
 nothing-first h n [] f = refl
 nothing-first h n (xs ∷ xss) f = ap (λ o. or_else o (first_some h (enumerate_from (n + 1) xss))) (f.0 n) ∙ nothing-first h (n + 1) xss f.1
 
@@ -46,7 +46,7 @@ forest-from f h = nothing-first (λ r. flaw_on f.roots r.0 [] 0 r.1) 0 f.leaves
 -- ---- leaves at owners
 
 -- later bounds are lower bounds
-rise-from : (n k : ℕ) (ls : List Leaf) → n ≤ k → Rise k ls → Rise n ls
+pub rise-from : (n k : ℕ) (ls : List Leaf) → n ≤ k → Rise k ls → Rise n ls
 rise-from n k [] h r = tt
 rise-from n k (l ∷ ls) h r = (omega (arith, r.0), r.1)
 

@@ -3,13 +3,13 @@
 //! Each function below does nothing: its contract is the law, and its proof is the law's.
 #![tactic(auto)]
 
-ghost use Rattle.std.specs.Prelude.{◌≡◌, ◌≢◌, ◌↔◌, ◌==◌, ◌<◌, ◌≤◌, ℕ, ◌+◌, List, None, Some, Option, Contains, IsPermutation, length, map, slice_index, slice_index_or, filter, filter_map, flat_map, option_and_then, true};
+ghost use Rattle.std.specs.Prelude.{◌≡◌, ◌≢◌, if◌then◌else◌, Bool, ◌↔◌, ◌==◌, ◌<◌, ◌≤◌, ℕ, ◌+◌, List, None, Some, Option, Contains, IsPermutation, length, map, slice_index, slice_index_or, filter, filter_map, flat_map, option_and_then, true};
 ghost use Rattle.mesh_defs.specs.Lists.{below};
 ghost use Rattle.mesh_defs.specs.Mesh.{Mesh, placed_cells};
 ghost use Rattle.mesh_defs.specs.Points.{Point, Sight, point_of, shows, sights, key, arrangement};
 ghost use Rattle.mesh_defs.specs.Diagram.{strata};
 ghost use Rattle.mesh_laws.specs.TriangleMesh.{points_differ};
-ghost use Rattle.rank_defs.specs.Forest.{Forest, IsForest, root_at, leaves_on, MeansSame, FitsLocals, root_of, compose, invert, shared_root};
+ghost use Rattle.rank_defs.specs.Forest.{Forest, IsForest, root_at, leaves_on, MeansSame, FitsLocals, root_of, compose, invert, shared_root, is_kept, embed_roots, embed_leaves};
 ghost use Rattle.rank_defs.specs.Ranks.{IsAssignment, least, assigned, held_cells, held, owner, owned, own_key};
 ghost use Rattle.rank_defs.specs.Spread.{charts, point_forest, migration_forest, trace};
 ghost use Rattle.rank_defs.specs.Home.{home_points, IsHomeRound};
@@ -117,4 +117,17 @@ pub fn inverse_is_the_converse()
 /// Inverting twice gives a forest that means the same.
 pub fn inverting_twice_means_the_same()
     ensures { (f : Forest) (roots : List ℕ) → IsForest f → shared_root f ≡ None → FitsLocals f roots → MeansSame (invert (invert f roots) f.roots) f }
+{}
+
+/// Embedding by roots is restriction to the leaves on kept roots.
+pub fn embedding_is_restriction()
+    ensures { (f : Forest) (keep : List (List Bool)) → IsForest f → (rank : ℕ) (local : ℕ) → root_of (embed_roots f keep) rank local ≡ option_and_then (λ (root : ℕ × ℕ). if is_kept keep root then Some root else None) (root_of f rank local) }
+{}
+
+/// What composition, inversion and embedding make of forests are forests.
+pub fn forests_are_made_of_forests()
+    ensures compositions { (a : Forest) (b : Forest) → IsForest a → IsForest b → IsForest (compose a b) }
+    ensures inverses { (f : Forest) (roots : List ℕ) → IsForest f → FitsLocals f roots → IsForest (invert f roots) }
+    ensures embeddings_by_root { (f : Forest) (keep : List (List Bool)) → IsForest f → IsForest (embed_roots f keep) }
+    ensures embeddings_by_place { (f : Forest) (keep : List (List Bool)) → IsForest f → IsForest (embed_leaves f keep) }
 {}
