@@ -7,6 +7,9 @@
 //! which the crates that use them hand on.
 #![tactic(auto)]
 
+#[cfg(test)]
+mod tests;
+
 ghost use Rattle.std.specs.Prelude.{◌≡◌, ◌↔◌, ◌≢◌, IsTrue};
 ghost use Rattle.rank_defs.specs.declared.Op.TheVariants.{Load};
 ghost use Rattle.rank_defs.specs.declared.Tag.TheVariants.{Free};

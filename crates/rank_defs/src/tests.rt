@@ -51,3 +51,27 @@ fn compares_asks_and_turns(rt: HostRuntime) {
     assert_eq!(rt; turn, Turn { rank: 1, index: 0 });
     assert!(rt; turn != Turn { rank: 0, index: 1 });
 }
+
+#[test]
+fn compares_leaves(rt: HostRuntime) {
+    let leaf = Leaf {
+        local: 4,
+        rank: 0,
+        index: 5,
+    };
+    assert_eq!(rt;
+        leaf,
+        Leaf {
+            local: 4,
+            rank: 0,
+            index: 5
+        }
+    );
+    assert!(rt;
+        leaf != Leaf {
+            local: 4,
+            rank: 1,
+            index: 5
+        }
+    );
+}
