@@ -35,6 +35,10 @@ two_triangles = record (bare 2 4 Triangle ((0 ∷ 1 ∷ 2 ∷ []) ∷ (1 ∷ 3 �
 abbrev pub two_tetrahedra : Mesh
 two_tetrahedra = bare 3 5 Tet ((0 ∷ 1 ∷ 2 ∷ 3 ∷ []) ∷ (1 ∷ 2 ∷ 3 ∷ 4 ∷ []) ∷ [])
 
+-- two hexahedra that share a face, which the second one lists from another corner
+abbrev pub two_hexahedra : Mesh
+two_hexahedra = bare 3 12 Hex ((0 ∷ 1 ∷ 2 ∷ 3 ∷ 4 ∷ 5 ∷ 6 ∷ 7 ∷ []) ∷ (5 ∷ 6 ∷ 7 ∷ 4 ∷ 8 ∷ 9 ∷ 10 ∷ 11 ∷ []) ∷ [])
+
 -- two hexahedra that see their shared face with two corners swapped
 abbrev pub twisted_hexahedra : Mesh
 twisted_hexahedra = bare 3 12 Hex ((0 ∷ 1 ∷ 2 ∷ 3 ∷ 4 ∷ 5 ∷ 6 ∷ 7 ∷ []) ∷ (4 ∷ 6 ∷ 5 ∷ 7 ∷ 8 ∷ 9 ∷ 10 ∷ 11 ∷ []) ∷ [])
