@@ -148,7 +148,7 @@ first-unique root n (xs ∷ xss) x c h k local e f t = go (find (is_on root) xs)
     go None g (suc j) h' f' r = let there : n + 1 + j ≡ n + suc j = omega arith in r (omega (arith, sum)) h' j local e f' t ∙ (λ i. (there i, local))
 
 -- what all numbers below n have
-at-below : (P : ℕ → Type 0) (n : ℕ) → AllByRecursion P (below n) → (i : ℕ) → i < n → P i
+pub at-below : (P : ℕ → Type 0) (n : ℕ) → AllByRecursion P (below n) → (i : ℕ) → i < n → P i
 at-below P zero h i low = absurd (omega arith)
 at-below P (suc n) h i low = ⊎_elim (λ (lt : i < n). at-below P n (all_append_first P (below n) (n ∷ []) h) i lt) (λ (ge : n ≤ i). let same : n ≡ i = omega arith in subst P same (all_append_second P (below n) (n ∷ []) h).0) (cases_lt i n)
 

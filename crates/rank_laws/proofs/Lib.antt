@@ -6,5 +6,9 @@ pub mod Redistribution
 pub mod PointForests
 pub mod Kept
 pub mod HomeRound
+pub mod Shapes
+pub mod Found
+pub mod Facets
+pub mod Arranging
 pub mod Forests
 pub mod Inverting

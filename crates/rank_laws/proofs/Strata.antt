@@ -139,7 +139,7 @@ find-filter p q f (x ∷ xs) = go (q x) refl (p x) refl (find-filter p q f xs)
     go false e false k r = r
 
 -- where something is found, something passes
-found-any : {X : Type 0} (p : X → Bool) (xs : List X) (x : X) → find p xs ≡ Some x → list_any p xs ≡ true
+pub found-any : {X : Type 0} (p : X → Bool) (xs : List X) (x : X) → find p xs ≡ Some x → list_any p xs ≡ true
 found-any p [] x e = absurd (cc e)
 found-any p (y ∷ ys) x e = go (p y) e (found-any p ys x)
   where

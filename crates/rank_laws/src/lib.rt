@@ -7,14 +7,15 @@ ghost use Rattle.std.specs.Prelude.{◌≡◌, ◌≢◌, if◌then◌else◌, B
 ghost use Rattle.mesh_defs.specs.Lists.{below};
 ghost use Rattle.mesh_defs.specs.Mesh.{Mesh, placed_cells};
 ghost use Rattle.mesh_defs.specs.Points.{Point, Sight, point_of, shows, sights, key, arrangement};
-ghost use Rattle.mesh_defs.specs.Diagram.{strata};
+ghost use Rattle.mesh_defs.specs.Diagram.{strata, chart, diagram, IsAccepted};
 ghost use Rattle.mesh_laws.specs.TriangleMesh.{points_differ};
+ghost use Rattle.rank_defs.specs.Closure.{IsArranged, arrangements};
 ghost use Rattle.rank_defs.specs.Forest.{Forest, IsForest, root_at, leaves_on, MeansSame, FitsLocals, root_of, compose, invert, shared_root, is_kept, embed_roots, embed_leaves};
 ghost use Rattle.rank_defs.specs.Ranks.{IsAssignment, least, assigned, held_cells, held, owner, owned, own_key};
 ghost use Rattle.rank_defs.specs.Spread.{charts, point_forest, migration_forest, trace};
 ghost use Rattle.rank_defs.specs.Home.{home_points, IsHomeRound};
 ghost use Rattle.rank_defs.specs.Rounds.{Round};
-ghost use Rattle.rank_laws.specs.Conditions.{UsesVertices, IsFlatOrSolid, in_some};
+ghost use Rattle.rank_laws.specs.Conditions.{UsesVertices, IsFlatOrSolid, IsSoundMesh, in_some};
 
 // ---- points
 
@@ -26,6 +27,12 @@ pub fn points_stand_as_first_seen()
 /// No two points of the chart of a mesh of dimension 2 or 3 are one.
 pub fn points_stand_once()
     ensures { (m : Mesh) → IsFlatOrSolid m → points_differ (strata m) ≡ true }
+{}
+
+/// The arrangements of an accepted mesh of sound cells arrange its diagram: closure and star, which are defined for
+/// diagrams that lists arrange, may be taken by them.
+pub fn arrangements_arrange_the_diagram()
+    ensures { (m : Mesh) → IsSoundMesh m → IsAccepted m → IsArranged (diagram m (placed_cells m)) (arrangements (chart m (placed_cells m))) }
 {}
 
 // ---- what ranks hold and own
