@@ -82,7 +82,7 @@ pub eqb-sym : (a b : ℕ) → (a == b) ≡ (b == a)
 eqb-sym a b = same_tests (a == b) (b == a) (λ h. eq-eqb b a (sym (eqb-true a b h))) (λ h. eq-eqb a b (sym (eqb-true b a h)))
 
 -- a vertex in a cell is contained in it
-vertex-contained : (v : ℕ) (cell : Cell) → list_any (λ w. w == v) cell.vertices ≡ true → contains cell (point_of (vertex_sight v)) ≡ true
+pub vertex-contained : (v : ℕ) (cell : Cell) → list_any (λ w. w == v) cell.vertices ≡ true → contains cell (point_of (vertex_sight v)) ≡ true
 unfolding contains
 vertex-contained v cell h =
     list_any-append (shows (point_of (vertex_sight v))) (map vertex_sight cell.vertices) (sights_of (0, cell))

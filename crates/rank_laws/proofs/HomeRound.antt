@@ -21,7 +21,7 @@ use Rattle.rank_defs.specs.Rounds.{Round, entry_at, in_order, places_of, places_
 use Rattle.rank_defs.specs.Ranks.{IsAssignment, rank_of, assigned, ranks_at, owner, is_shared, own_key}
 use Rattle.rank_defs.specs.Home.{precedes, put_in_order, by_vertices, shared_points, home_points, home_words, home_asks, IsHomeRound}
 use Rattle.rank_laws.specs.Conditions.{in_some}
-use Rattle.rank_laws.proofs.Lists.{any_filter, stands, least-some, find-cases, image-below}
+use Rattle.rank_laws.proofs.Lists.{among, any_filter, stands, least-some, find-cases, image-below}
 use Rattle.rank_laws.proofs.Owning.{owner-assigned, owner-below}
 use Rattle.rank_laws.proofs.Inverting.{of-images}
 use Rattle.rank_laws.proofs.OwnKeys.{given-among, key-of_own_keys}
@@ -233,15 +233,6 @@ own-some m a r p ne h = ⊎_elim (λ (w : (s : Sight) × (find (shows p) (sights
     seen (c ∷ cells) e = list_any-append (shows p) (sights_of c) (sights cells) ∙ ⊎_elim (λ x. or_left _ _ (by_cell c x)) (λ x. or_right (list_any (shows p) (sights_of c)) (list_any (shows p) (sights cells)) (seen cells x)) (or_cases (contains c.1 p) (in_some p cells) e)
 
 -- ---- the last values
-
--- what all elements have, the one that passes has
-among : {X : Type 0} (P : X → Type 0) (p : X → Bool) (xs : List X) → AllByRecursion P xs → list_any p xs ≡ true → (x : X) × P x × (p x ≡ true)
-among P p [] h e = absurd (cc e)
-among {X} P p (x ∷ xs) h e = go (p x) refl e (among P p xs h.1)
-  where
-    go : (b : Bool) → p x ≡ b → (b || list_any p xs) ≡ true → (list_any p xs ≡ true → (y : X) × P y × (p y ≡ true)) → (y : X) × P y × (p y ≡ true)
-    go true f g r = (x, h.0, f)
-    go false f g r = r g
 
 -- what a function gives on the numbers below n
 given-all-below : (P : ℕ → Type 0) (h : ℕ → Option ℕ) (n : ℕ) → ((r k : ℕ) → r < n → h r ≡ Some k → P k) → AllByRecursion P (filter_map h (below n))

@@ -12,3 +12,5 @@ pub mod Facets
 pub mod Arranging
 pub mod Forests
 pub mod Inverting
+pub mod SoundRows
+pub mod Closed

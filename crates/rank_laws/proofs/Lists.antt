@@ -152,3 +152,12 @@ image-below f d (suc n) k h = ap (λ l. get_or l k d) (map-append f (below n) (n
   where
     count : (j : ℕ) → length (map f (below j)) ≡ j
     count j = length-map (below j) f ∙ length-below j
+
+-- what all elements have, the one that passes has
+pub among : {X : Type 0} (P : X → Type 0) (p : X → Bool) (xs : List X) → AllByRecursion P xs → list_any p xs ≡ true → (x : X) × P x × (p x ≡ true)
+among P p [] h e = absurd (cc e)
+among {X} P p (x ∷ xs) h e = go (p x) refl e (among P p xs h.1)
+  where
+    go : (b : Bool) → p x ≡ b → (b || list_any p xs) ≡ true → (list_any p xs ≡ true → (y : X) × P y × (p y ≡ true)) → (y : X) × P y × (p y ≡ true)
+    go true f g r = (x, h.0, f)
+    go false f g r = r g

@@ -83,7 +83,7 @@ apart : (vs : List ℕ) → ((i j : ℕ) → i < j → j < length vs → slice_i
 apart vs d i j p q ne same = ⊎_elim (λ (lt : i < j). d i j lt q same) (λ (ge : j ≤ i). ⊎_elim (λ (lt : j < i). d j i lt p (sym same)) (λ (le : i ≤ j). ne (omega arith)) (cases_lt j i)) (cases_lt i j)
 
 -- what a test on all numbers below n says of each
-at-below : (p : ℕ → Bool) (n i : ℕ) → list_all p (below n) ≡ true → i < n → p i ≡ true
+pub at-below : (p : ℕ → Bool) (n i : ℕ) → list_all p (below n) ≡ true → i < n → p i ≡ true
 at-below p n i h low = all-numbers (λ k. p k ≡ true) n (all-pass p (below n) h) i low
 
 -- chosen vertices at different corners differ

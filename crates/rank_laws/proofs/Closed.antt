@@ -1,0 +1,89 @@
+-- A chart has the facets of its points.
+use Rattle.std.proofs.Common.{◌≡◌, ◌≢◌, ℕ, zero, suc, ◌+◌, ◌*◌, ◌<◌, ◌≤◌, min, max, Bool, true, false, cond, not, ◌&&◌, ◌||◌, ◌==◌, nat_lt, if◌then◌else◌, List, [], ◌∷◌, ◌++◌, map, length, get_or, slice_index, ℤ, pos, negsuc, Option, Some, None, refl, sym, ap, ap₂, ◌∙◌, subst, subst₂, inl, inr, ◌⊎◌, ⊎_elim, arith}
+use Rattle.std.specs.Prelude.{find, flat_map, option_map, option_and_then}
+use Rattle.std.specs.List.{list_any, list_all, AllByRecursion, filter, enumerate_from}
+use Rattle.std.specs.Cmp.Lexicographic.{same_text}
+use Rattle.std.proofs.lemmas.Bool.{and_parts, and_from, ltb-true, eqb-true, eq-eqb, ne_eqb, or_left, or_right, or_cases, or_parts, cond-true, cond-false, both_ways, not-true}
+use Rattle.std.proofs.lemmas.List.{length-map, get_or-map}
+use Rattle.std.proofs.lemmas.List.Folds.{list_any-append}
+use Rattle.mesh_defs.specs.declared.Poly.{Poly}
+use Rattle.mesh_defs.specs.declared.Poly.TheVariants.{Vertex, Segment, Triangle, Quad, Tet, Hex}
+use Rattle.mesh_defs.specs.Lists.{below, same_list, sorted, picked}
+use Rattle.mesh_defs.specs.Tables.{Facet, dim_of, corner_count, facets_of, edges_of}
+use Rattle.mesh_defs.specs.Orientation.{rotations, reflections, orientations, corners_under, act, relative}
+use Rattle.mesh_defs.specs.Mesh.{Mesh, Cell, placed_cells}
+use Rattle.mesh_defs.specs.Points.{Point, Sight, same_point, point_on, point_of, shows, sights_of, sights, vertex_sight, first_sight, arrangement, contains}
+use Rattle.mesh_defs.specs.Diagram.{strata, chart, seen_under, IsAccepted}
+use Rattle.mesh_laws.proofs.Places.{each_fails, all_weaker, all_both, all_from, all_map, all_append, all_enumerated, all_in_flat_map, any_weaker, any_map, any_enumerated}
+use Rattle.mesh_laws.proofs.Firsts.{same_list-self, same_point-self, same_point-true, shows-true, shown_itself}
+use Rattle.mesh_laws.proofs.Turns.{find-passes, relative-carries}
+use Rattle.rank_laws.specs.Conditions.{IsFlatOrSolid, IsSoundCell, IsSoundMesh}
+use Rattle.rank_laws.proofs.Lists.{among, any_filter, find-has}
+use Rattle.rank_laws.proofs.Shapes.{HasShape, are_corners, is_pair, is_edge_of, is_side_of, is_face_of, all-pass, edges-are_pairs, sides-are_edges, facets-are_faces, picked-differ, picked-shape}
+use Rattle.rank_laws.proofs.Found.{two-entries, poly-zero, poly-one, poly-two, length-sorted, sorted-turned, shows-list, edge-there, picked-picked}
+
+-- ---- the edges of a polygon that is turned
+
+-- each edge of the corners is an edge of the corners under an orientation, one way or the other
+abbrev keeps_edges : Poly → ℤ → Bool
+keeps_edges p o = list_all (λ e. list_any (λ f. same_list (picked (corners_under p o) f) e || same_list (picked (corners_under p o) f) (get_or e 1 0 ∷ get_or e 0 0 ∷ [])) (edges_of p)) (edges_of p)
+
+-- all orientations of polygons keep edges
+polygons-keep_edges : (p : Poly) → dim_of p ≡ 2 → list_all (keeps_edges p) (orientations p) ≡ true
+unfolding rotations reflections orientations corners_under
+polygons-keep_edges Vertex e = absurd (omega arith)
+polygons-keep_edges Segment e = absurd (omega arith)
+polygons-keep_edges Triangle e = refl
+polygons-keep_edges Quad e = refl
+polygons-keep_edges Tet e = absurd (omega arith)
+polygons-keep_edges Hex e = absurd (omega arith)
+
+-- the orientation that is found keeps edges
+relative-keeps : (p : Poly) (from to : List ℕ) (o : ℤ) → dim_of p ≡ 2 → relative p from to ≡ Some o → keeps_edges p o ≡ true
+unfolding relative
+relative-keeps p from to o flat h = find-has (λ o. keeps_edges p o ≡ true) (λ o. same_list (act p o from) to) (orientations p) o (all-pass (keeps_edges p) (orientations p) (polygons-keep_edges p flat)) h
+
+-- the facets of a polygon are its edges
+polygon-facets : (p : Poly) → dim_of p ≡ 2 → facets_of p ≡ map (λ e. record { poly = Segment; corners = e }) (edges_of p)
+polygon-facets Vertex e = absurd (omega arith)
+polygon-facets Segment e = absurd (omega arith)
+polygon-facets Triangle e = refl
+polygon-facets Quad e = refl
+polygon-facets Tet e = absurd (omega arith)
+polygon-facets Hex e = absurd (omega arith)
+
+-- the corners of a pair are below n
+pair-below : (n : ℕ) (e : List ℕ) → is_pair n e ≡ true → AllByRecursion (λ k. k < n) e
+pair-below n e h =
+    let both = and_parts (length e == 2) (are_corners n e) h in
+    all_weaker (λ k. nat_lt k n ≡ true) (λ k. k < n) (λ k x. ltb-true k n x) e (all-pass (λ k. nat_lt k n) e (and_parts (list_all (λ k. nat_lt k n) e) _ both.1).0)
+
+-- What the edges of a polygon have as sets, the edges have when the polygon is listed under another orientation.
+turned-edges : (Q : List ℕ → Type 0) (p : Poly) (from to : List ℕ) (o : ℤ) → dim_of p ≡ 2 → length to ≡ corner_count p → relative p from to ≡ Some o → AllByRecursion (λ e. Q (sorted (picked to e))) (edges_of p) → AllByRecursion (λ e. Q (sorted (picked from e))) (edges_of p)
+unfolding act
+turned-edges Q p from to o flat long h all =
+    all_both (λ e. list_any (λ f. same_list (picked (corners_under p o) f) e || same_list (picked (corners_under p o) f) (get_or e 1 0 ∷ get_or e 0 0 ∷ [])) (edges_of p) ≡ true) (λ e. is_pair (corner_count p) e ≡ true) (λ e. Q (sorted (picked from e))) one (edges_of p)
+    (all-pass (λ e. list_any (λ f. same_list (picked (corners_under p o) f) e || same_list (picked (corners_under p o) f) (get_or e 1 0 ∷ get_or e 0 0 ∷ [])) (edges_of p)) (edges_of p) (relative-keeps p from to o flat h))
+    pairs
+  where
+    pairs : AllByRecursion (λ e. is_pair (corner_count p) e ≡ true) (edges_of p)
+    pairs = all-pass (is_pair (corner_count p)) (edges_of p) (edges-are_pairs p)
+
+    carried : picked from (corners_under p o) ≡ to
+    carried = relative-carries p from to o h
+
+    count : length (corners_under p o) ≡ corner_count p
+    count = sym (length-map (corners_under p o) (λ k. get_or from k 0)) ∙ ap length carried ∙ long
+
+    -- an edge of the turned list, by the corners of the first one
+    by-corners : (f : List ℕ) → is_pair (corner_count p) f ≡ true → picked to f ≡ picked from (picked (corners_under p o) f)
+    by-corners f x = ap (λ l. picked l f) (sym carried) ∙ picked-picked from (corners_under p o) f (subst (λ n. AllByRecursion (λ k. k < n) f) (sym count) (pair-below (corner_count p) f x))
+
+    one : (e : List ℕ) → list_any (λ f. same_list (picked (corners_under p o) f) e || same_list (picked (corners_under p o) f) (get_or e 1 0 ∷ get_or e 0 0 ∷ [])) (edges_of p) ≡ true → is_pair (corner_count p) e ≡ true → Q (sorted (picked from e))
+    one e kept pair =
+        let (f, (q, x), test) = among (λ f. Q (sorted (picked to f)) × (is_pair (corner_count p) f ≡ true)) (λ f. same_list (picked (corners_under p o) f) e || same_list (picked (corners_under p o) f) (get_or e 1 0 ∷ get_or e 0 0 ∷ [])) (edges_of p) (all_both (λ f. Q (sorted (picked to f))) (λ f. is_pair (corner_count p) f ≡ true) _ (λ f a b. (a, b)) (edges_of p) all pairs) kept in
+        let two = two-entries e (eqb-true (length e) 2 (and_parts (length e == 2) (are_corners (corner_count p) e) pair).0) in
+        subst Q (ap sorted (by-corners f x) ∙ ⊎_elim
+        (λ a. ap (λ l. sorted (picked from l)) (same_text (picked (corners_under p o) f) e (sym a)))
+        (λ a. ap (λ l. sorted (picked from l)) (same_text (picked (corners_under p o) f) (get_or e 1 0 ∷ get_or e 0 0 ∷ []) (sym a)) ∙ sorted-turned (get_or from (get_or e 1 0) 0) (get_or from (get_or e 0 0) 0) ∙ ap (λ l. sorted (picked from l)) (sym two))
+        (or_cases (same_list (picked (corners_under p o) f) e) (same_list (picked (corners_under p o) f) (get_or e 1 0 ∷ get_or e 0 0 ∷ [])) test)) q
