@@ -1,0 +1,5 @@
+pub mod Lines
+pub mod Items
+pub mod Quotes
+pub mod Steps
+pub mod Numbers
