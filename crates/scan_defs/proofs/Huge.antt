@@ -17,7 +17,7 @@ ten_pow-pos k = let le : 0 ≤ k = omega arith in pow-le-pow_right (omega arith)
 
 -- ---- m * 10^k
 
-scaled-small : (m k : ℕ) → 2 * m < 10 ^ (k + 1) → scaled m (negsuc k) ≡ 0
+pub scaled-small : (m k : ℕ) → 2 * m < 10 ^ (k + 1) → scaled m (negsuc k) ≡ 0
 unfolding scaled
 scaled-small m k small = div-eq_of_lt (omega arith)
 
@@ -26,7 +26,7 @@ unfolding scaled
 scaled-zero (pos k) = zero-mul (10 ^ k)
 scaled-zero (negsuc k) = scaled-small 0 k (let h = ten_pow-pos (k + 1) in omega arith)
 
-scaled-great : (m k : ℕ) → 1 ≤ m → 19 ≤ k → 9 * 10 ^ 18 < scaled m (pos k)
+pub scaled-great : (m k : ℕ) → 1 ≤ m → 19 ≤ k → 9 * 10 ^ 18 < scaled m (pos k)
 unfolding scaled
 scaled-great m k some far =
     let p : 10 ^ 19 ≤ 10 ^ k = pow-le-pow_right (omega arith) far in
@@ -35,7 +35,7 @@ scaled-great m k some far =
 
 -- ---- the number that digits write
 
-digits_below : (ds : List ℕ) → list_all is_digit ds ≡ true → AllBelowBase 10 (map (λ b. b - 48) ds)
+pub digits_below : (ds : List ℕ) → list_all is_digit ds ≡ true → AllBelowBase 10 (map (λ b. b - 48) ds)
 digits_below [] all = tt
 digits_below (d ∷ ds) all =
     let both = and_parts _ _ all in

@@ -1,0 +1,66 @@
+//! Fixed-point numbers.
+
+ghost use Rattle.std.specs.Prelude.{◌≡◌, ◌+◌, ◌*◌, ◌<◌, ◌≤◌, ◌^◌, length, IsTrue};
+ghost use Rattle.std.specs.List.{list_all};
+ghost use Rattle.text_defs.specs.Numbers.{is_digit};
+ghost use Rattle.scan_defs.specs.Numbers.{signed, fixed_of};
+ghost use Rattle.scan.specs.Rounding.{kept_places, size_of};
+
+use crate::parts::{Parts, Power, split_parts};
+use crate::rounding::rounded;
+use scan_defs::NumberFault;
+
+/// How many digits a number keeps in 10^-10, of which `whole` stand before the point; none where
+/// that is below 0.
+fn kept(whole: u64, power: Power) -> Option<u64>
+    requires { whole < 2 ^ 63 }
+    ensures { result ≡ kept_places whole power }
+{
+    let places = whole + 10;
+    if power.minus {
+        places.checked_sub(power.size)
+    } else {
+        Some(places.saturating_add(power.size))
+    }
+}
+
+/// The absolute value in 10^-10, where it is in range.
+#[tactic(auto, unfolding(crate::specs::Rounding::size_of))]
+fn size(parts: Parts<'_>) -> Option<u64>
+    requires length { length parts.whole.now + length parts.fraction.now < 2 ^ 63 }
+    requires whole { IsTrue (list_all is_digit parts.whole.now) }
+    requires fraction { IsTrue (list_all is_digit parts.fraction.now) }
+    ensures { result ≡ size_of parts.entry.whole.now parts.entry.fraction.now parts.entry.power }
+{
+    match kept(parts.whole.len() as u64, parts.power) {
+        Some(keep) => rounded(parts.whole, parts.fraction, keep),
+        None => Some(0),
+    }
+}
+
+/// A value with its sign.
+fn signed(minus: bool, size: u64) -> i64
+    requires { size ≤ 9 * 10 ^ 18 }
+    ensures { result ≡ signed minus size }
+{
+    let size = size as i64;
+    if minus { -size } else { size }
+}
+
+/// A fixed-point number in 10^-10, of at most 9 * 10^18 without its sign.
+///
+/// A token is an optional sign, then digits with at most one point among, before or behind them and
+/// at least one digit, then optionally `e` or `E`, an optional sign and at least one digit. Its
+/// exact value is rounded half away from zero. An `Err` is `NotNumber` where the token has another
+/// shape, else `OutOfRange`. The time is linear in the token's length, whatever its exponent.
+pub fn read_fixed(t: &[u8]) -> Result<i64, NumberFault>
+    ensures { result ≡ fixed_of t.now }
+{
+    let Some(parts) = split_parts(t) else {
+        return Err(NumberFault::NotNumber);
+    };
+    match size(parts) {
+        Some(size) => Ok(signed(parts.minus, size)),
+        None => Err(NumberFault::OutOfRange),
+    }
+}

@@ -1,0 +1,19 @@
+//! Tokens with their lines, and the numbers and texts that they write, of mesh files.
+//!
+//! A [`Scan`] goes over the bytes of a file once, as a cursor: header lines, the tokens between
+//! them, quoted texts. The definitions of `scan_defs` say what it finds.
+#![tactic(auto)]
+
+mod fixed;
+mod parts;
+mod print;
+mod rounding;
+mod whole;
+
+pub use fixed::read_fixed;
+pub use print::print_fixed;
+pub use scan_defs::{NumberFault, Token};
+pub use whole::{read_int, read_uint};
+
+#[cfg(test)]
+mod tests;
