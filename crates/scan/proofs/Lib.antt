@@ -2,3 +2,7 @@ mod Splits
 mod Digits
 mod Rounds
 mod Fractions
+mod Runs
+mod Ahead
+mod Places
+mod Quoting

@@ -4,15 +4,18 @@
 //! them, quoted texts. The definitions of `scan_defs` say what it finds.
 #![tactic(auto)]
 
+mod cursor;
 mod fixed;
 mod parts;
 mod print;
 mod rounding;
+mod scanning;
 mod whole;
 
 pub use fixed::read_fixed;
 pub use print::print_fixed;
 pub use scan_defs::{NumberFault, Token};
+pub use scanning::Scan;
 pub use whole::{read_int, read_uint};
 
 #[cfg(test)]
