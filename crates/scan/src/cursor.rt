@@ -142,6 +142,7 @@ pub fn past_body(bytes: &[u8], from: Cursor) -> Cursor
     requires short { length bytes.now ≤ 268435456 }
     requires from { IsAt bytes.now from }
     ensures at { IsAt bytes.now result }
+    ensures goes_on { from.place ≤ result.place }
     ensures header { next_header (ahead (spot bytes.now result.place)) ≡ next_header (ahead (spot bytes.now from.place)) }
     ensures ahead { ahead_after_header (ahead (spot bytes.now result.place)) ≡ ahead_after_header (ahead (spot bytes.now from.place)) }
     ensures stops { result.place < length bytes.now → (result.is_indent && (get_or bytes.now result.place 0 == 36)) ≡ true }
@@ -160,6 +161,7 @@ pub fn past_header(bytes: &[u8], at: Cursor) -> Cursor
     requires inside { at.place < length bytes.now }
     requires header { (at.is_indent && (get_or bytes.now at.place 0 == 36)) ≡ true }
     ensures at { IsAt bytes.now result }
+    ensures goes_on { at.place < result.place }
     ensures stands { result.place ≡ behind_line bytes.now (at.place + 1) }
     ensures ahead { ahead (spot bytes.now at.place) ≡ Header (header_name bytes.now at) ∷ ahead (spot bytes.now result.place) }
 {

@@ -1,6 +1,6 @@
 //! The scan of a file: header lines, tokens and quoted texts.
 
-ghost use Rattle.std.specs.Prelude.{◌≡◌, ◌-◌, ◌≤◌, length, if◌then◌else◌, Some, None, IfSome, IfOk};
+ghost use Rattle.std.specs.Prelude.{◌≡◌, ◌-◌, ◌<◌, ◌≤◌, length, if◌then◌else◌, Some, None, IfSome, IfOk};
 ghost use Rattle.scan_defs.specs.Lines.{line_number, front, back};
 ghost use Rattle.scan_defs.specs.Items.{text_of, ahead};
 ghost use Rattle.scan_defs.specs.Quotes.{is_quoted, quoted_from, quoted_in};
@@ -72,6 +72,10 @@ impl<'a> Scan<'a> {
         ensures stands { self.new ≡ moved self.old (place_after_token self.old (ahead self.old)) }
         ensures ahead { ahead self.new ≡ ahead_after_token (ahead self.old) }
         ensures within { IfSome result (λ t. IsWithin self.new.bytes t) }
+        ensures bytes { self.new.bytes ≡ self.old.bytes }
+        ensures goes_on { self.old.place ≤ self.new.place }
+        ensures steps { IfSome result (λ _. self.old.place < self.new.place) }
+        ensures inside { self.new.place ≤ length self.new.bytes }
     {
         let at = past_gaps(self.bytes, self.at);
         if !begins_token(self.bytes, at) {
@@ -91,6 +95,10 @@ impl<'a> Scan<'a> {
         ensures stands { self.new ≡ moved self.old (place_after_header self.old result) }
         ensures ahead { ahead self.new ≡ ahead_after_header (ahead self.old) }
         ensures within { IfSome result (λ t. IsWithin self.new.bytes t) }
+        ensures bytes { self.new.bytes ≡ self.old.bytes }
+        ensures goes_on { self.old.place ≤ self.new.place }
+        ensures steps { IfSome result (λ _. self.old.place < self.new.place) }
+        ensures inside { self.new.place ≤ length self.new.bytes }
     {
         let at = past_body(self.bytes, self.at);
         if at.place == self.bytes.len() {
@@ -114,6 +122,10 @@ impl<'a> Scan<'a> {
         ensures stands { self.new ≡ moved self.old (place_after_quoted self.old result) }
         ensures ahead { ahead self.new ≡ ahead_after_quoted (ahead self.old) result }
         ensures within { IfOk result (λ t. IsWithin self.new.bytes t) }
+        ensures bytes { self.new.bytes ≡ self.old.bytes }
+        ensures goes_on { self.old.place ≤ self.new.place }
+        ensures steps { IfOk result (λ _. self.old.place < self.new.place) }
+        ensures inside { self.new.place ≤ length self.new.bytes }
     {
         let at = past_gaps(self.bytes, self.at);
         let end = line_end(self.bytes, at.place);

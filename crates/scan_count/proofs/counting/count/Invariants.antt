@@ -1,0 +1,17 @@
+use Rattle.std.proofs.Common.{◌≡◌, ◌+◌, ◌-◌, ◌≤◌, [], length}
+use Rattle.std.specs.Prelude.{count_by}
+use Rattle.scan_defs.specs.Items.{items, ahead, body}
+use Rattle.scan_count.specs.Counting.{is_word, AreFew}
+use Rattle.scan_count.proofs.counting.count.Given as goal
+
+abbrev pub invariant-loop-name : goal.invariant-loop-name
+invariant-loop-name l = record {
+  bytes : l.scan.bytes ≡ l.bytes;
+  inside : l.scan.place ≤ length l.bytes;
+  few : AreFew l.scan.place l.counts;
+  tokens : l.counts.tokens + count_by is_word (ahead l.scan) ≡ count_by is_word (items l.bytes);
+  body : body (ahead l.scan) ≡ [];
+}
+
+abbrev pub decreases-loop-name : goal.decreases-loop-name
+decreases-loop-name l = length l.bytes - l.scan.place
