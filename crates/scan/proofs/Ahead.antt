@@ -1,14 +1,14 @@
 -- What stands ahead of a place, over gaps, tokens and header lines.
-use Rattle.std.proofs.Common.{◌≡◌, ℕ, zero, suc, ◌+◌, ◌-◌, ◌<◌, ◌≤◌, min, Bool, true, false, not, cond, eqb, ltb, ◌&&◌, ◌||◌, List, [], ◌∷◌, ◌++◌, length, map, take, drop, get_or, refl, sym, ap, ◌∙◌, add-one, inl, inr, arith}
+use Rattle.std.proofs.Common.{◌≡◌, ℕ, suc, ◌+◌, ◌-◌, ◌<◌, ◌≤◌, Bool, true, false, not, cond, eqb, ◌&&◌, List, [], ◌∷◌, ◌++◌, length, map, take, drop, get_or, refl, sym, ap, ◌∙◌, arith}
 use Rattle.std.specs.Prelude.{flat_map}
-use Rattle.std.specs.List.{prefix_len, position_or_len}
-use Rattle.std.proofs.lemmas.Bool.{cases_lt, lt-ltb, eqb-true, cond-true, cond-false}
-use Rattle.std.proofs.lemmas.List.{length-take-le, length-drop, drop_all, drop_more, take_all, get_or-take}
+use Rattle.std.specs.List.{position_or_len}
+use Rattle.std.proofs.lemmas.Bool.{lt-ltb, eqb-true, cond-true, cond-false}
+use Rattle.std.proofs.lemmas.List.{length-take-le, length-drop, drop_all, drop_more, get_or-take}
 use Rattle.std.proofs.lemmas.List.Sums.{prefix_len-le-length, passes_at_first, fails_before_first}
 use Rattle.text_defs.specs.Rows.{is_blank, is_newline, is_some_bytes, onto_first, parts, lines_of}
 use Rattle.scan_defs.specs.declared.Token.{Token}
 use Rattle.scan_defs.specs.Lines.{Line, lines_at, front, back}
-use Rattle.scan_defs.specs.Items.{Item, Header, Word, is_header, name_of, tokens_at, tokens_on, words_on, items_on, items_of}
+use Rattle.scan_defs.specs.Items.{Item, Header, Word, is_header, name_of, tokens_on, words_on, items_on, items_of}
 use Rattle.scan.specs.Cursors.{is_gap}
 use Rattle.scan.proofs.Runs.{others, parts-first, parts-from, gap-in-line, back-cons, back-pos}
 
@@ -202,9 +202,9 @@ over-header place line m bytes is lt dollar =
     let o : others (lines_of bytes) ≡ lines_of (drop (m + 1) bytes) = others-newline m bytes is lt in
     let first : lines_of bytes ≡ first-line bytes ∷ lines_of (drop (m + 1) bytes) = lines-first bytes ∙ ap (λ ls. first-line bytes ∷ ls) o in
     let a : left true place line bytes ≡ items_on (at place line (first-line bytes)) ++ flat_map items_on (lines_at (place + length (first-line bytes) + 1) (line + 1) (lines_of (drop (m + 1) bytes))) =
-        ap (λ ls. items_of true (lines_at place line ls)) first in
+    ap (λ ls. items_of true (lines_at place line ls)) first in
     let b : flat_map items_on (lines_at (place + length (first-line bytes) + 1) (line + 1) (lines_of (drop (m + 1) bytes))) ≡ left true (place + m + 1) (line + 1) (drop (m + 1) bytes) =
-        ap (λ (j : ℕ). flat_map items_on (lines_at (place + j + 1) (line + 1) (lines_of (drop (m + 1) bytes)))) n ∙ sym (whole-lines (lines_at (place + m + 1) (line + 1) (lines_of (drop (m + 1) bytes)))) in
+    ap (λ (j : ℕ). flat_map items_on (lines_at (place + j + 1) (line + 1) (lines_of (drop (m + 1) bytes)))) n ∙ sym (whole-lines (lines_at (place + m + 1) (line + 1) (lines_of (drop (m + 1) bytes)))) in
     a ∙ rw (dollar-items place line bytes dollar, b) refl
 
 -- the header line is the last line, and no LF ends it

@@ -1,5 +1,5 @@
 -- Numbers digit by digit, with a number in front of the digits that are left.
-use Rattle.std.proofs.Common.{◌≡◌, ℕ, ◌+◌, ◌-◌, ◌*◌, ◌^◌, ◌<◌, ◌≤◌, min, Bool, true, false, cond, leb, ◌&&◌, List, [], ◌∷◌, length, map, get_or, drop, Option, Some, None, refl, sym, ap, ◌∙◌, inl, inr, arith}
+use Rattle.std.proofs.Common.{◌≡◌, ℕ, ◌+◌, ◌-◌, ◌*◌, ◌^◌, ◌<◌, ◌≤◌, min, Bool, true, false, cond, leb, ◌&&◌, List, length, map, get_or, drop, Option, Some, None, refl, sym, ap, inl, inr, arith}
 use Rattle.std.specs.Int.Digits.{number_from_digits_after}
 use Rattle.std.specs.List.{list_all}
 use Rattle.std.proofs.lemmas.Int.Digits.{number_after_ge}
@@ -40,8 +40,8 @@ after_all n ds i le = ap (after n) (drop_all i ds le)
 -- a number that is cut down to the greatest one stays as good as itself
 pub after_min : (most n : ℕ) (ds : List ℕ) → min (after (min n most) ds) most ≡ min (after n ds) most
 after_min most n ds = elim (cases_lt n most) [
-    | inl lt ↦ let e : min n most ≡ n = omega arith in rw e refl
-    | inr ge ↦ let e : min n most ≡ most = omega arith in
+  | inl lt ↦ let e : min n most ≡ n = omega arith in rw e refl
+  | inr ge ↦ let e : min n most ≡ most = omega arith in
       let a : most ≤ after most ds = after-ge most ds in
       let b : n ≤ after n ds = after-ge n ds in
       rw e (omega arith)

@@ -1,20 +1,19 @@
 -- A cursor that moves, and what stands ahead of it.
-use Rattle.std.proofs.Common.{◌≡◌, ℕ, zero, suc, ◌+◌, ◌-◌, ◌<◌, ◌≤◌, min, Bool, true, false, not, cond, eqb, ltb, ◌⊎◌, Some, None, Ok, Err, ◌&&◌, ◌||◌, List, [], ◌∷◌, ◌++◌, length, take, drop, get_or, reverse, refl, sym, ap, ◌∙◌, add-one, inl, inr, arith}
-use Rattle.std.specs.Prelude.{count_by, take_while}
+use Rattle.std.proofs.Common.{◌≡◌, ℕ, zero, suc, ◌+◌, ◌-◌, ◌<◌, ◌≤◌, Bool, true, false, not, cond, eqb, ltb, ◌⊎◌, Some, None, Err, ◌&&◌, ◌||◌, List, [], ◌∷◌, length, take, drop, get_or, reverse, refl, sym, ap, ◌∙◌, inl, inr, arith}
+use Rattle.std.specs.Prelude.{take_while}
 use Rattle.std.specs.List.{list_all, position_or_len}
 use Rattle.std.proofs.lemmas.Bool.{eqb-true, ltb-true, ltb-false, cases_lt}
 use Rattle.std.proofs.lemmas.List.Folds.{length-prefix_len}
 use Rattle.std.proofs.lemmas.List.{length-take, length-drop, drop_all, drop-drop, drop_more, take_more, get_or-drop, reverse-append}
 use Rattle.std.proofs.lemmas.List.Sums.{count_by_more_yes, count_by_more_no, count_by-le-length, take_while-cons, prefix_len-le-length, prefix_len-drop_yes, fails_before_first, passes_at_first}
 use Rattle.text_defs.specs.Rows.{is_blank, is_newline}
-use Rattle.scan_defs.specs.declared.Token.{Token}
 use Rattle.scan_defs.specs.Lines.{line_number, lines_from, is_indent, rest_of_line, line_end, behind_line, front, back}
-use Rattle.scan_defs.specs.Items.{Item, Header, Word, Spot, ahead}
+use Rattle.scan_defs.specs.Items.{Item, Header, Word, ahead}
 use Rattle.scan_defs.specs.Quotes.{quoted_in}
 use Rattle.scan_defs.specs.Steps.{next_token, place_after_token, ahead_after_token, next_header}
 use Rattle.scan.specs.declared.cursor.Cursor.{Cursor}
 use Rattle.scan.specs.Cursors.{is_gap, spot, IsAt, IsWithin, header_name}
-use Rattle.scan.proofs.Ahead.{left, over-newline, over-blank, over-token, over-header, over-last-header, name-at, at-end, dollar-first, front-none}
+use Rattle.scan.proofs.Ahead.{left, over-newline, over-blank, over-token, over-header, over-last-header, at-end, dollar-first, front-none}
 use Rattle.scan.proofs.Runs.{back-pos}
 
 -- ---- lines and indents, one place on
@@ -110,13 +109,13 @@ ahead-is bytes p = refl
 pub ahead-newline : (bytes : List ℕ) (p : ℕ) → p < length bytes → is_newline (get_or bytes p 0) ≡ true → ahead (spot bytes (p + 1)) ≡ ahead (spot bytes p)
 ahead-newline bytes p lt is =
     let a : ahead (spot bytes p) ≡ left true (p + 1) (line_number bytes p + 1) (drop (p + 1) bytes) =
-        ahead-is bytes p ∙ (ap (left (is_indent bytes p) p (line_number bytes p)) (drop_more bytes p 0 lt) ∙ over-newline (is_indent bytes p) p (line_number bytes p) (get_or bytes p 0) (drop (p + 1) bytes) is) in
+    ahead-is bytes p ∙ (ap (left (is_indent bytes p) p (line_number bytes p)) (drop_more bytes p 0 lt) ∙ over-newline (is_indent bytes p) p (line_number bytes p) (get_or bytes p 0) (drop (p + 1) bytes) is) in
     ahead-is bytes (p + 1) ∙ (rw (indent-newline bytes p lt is, number-newline bytes p lt is) (sym a))
 
 pub ahead-blank : (bytes : List ℕ) (p : ℕ) → p < length bytes → is_newline (get_or bytes p 0) ≡ false → is_blank (get_or bytes p 0) ≡ true → ahead (spot bytes (p + 1)) ≡ ahead (spot bytes p)
 ahead-blank bytes p lt other is =
     let a : ahead (spot bytes p) ≡ left (is_indent bytes p) (p + 1) (line_number bytes p) (drop (p + 1) bytes) =
-        ahead-is bytes p ∙ (ap (left (is_indent bytes p) p (line_number bytes p)) (drop_more bytes p 0 lt) ∙ over-blank (is_indent bytes p) p (line_number bytes p) (get_or bytes p 0) (drop (p + 1) bytes) other is) in
+    ahead-is bytes p ∙ (ap (left (is_indent bytes p) p (line_number bytes p)) (drop_more bytes p 0 lt) ∙ over-blank (is_indent bytes p) p (line_number bytes p) (get_or bytes p 0) (drop (p + 1) bytes) other is) in
     ahead-is bytes (p + 1) ∙ (rw (indent-blank bytes p lt other is, number-other bytes p lt other) (sym a))
 
 pub number-le : (bytes : List ℕ) (p : ℕ) → line_number bytes p ≤ length bytes + 1
@@ -158,15 +157,15 @@ past-token bytes c end at lt ink body is =
     let le : p + k ≤ length bytes = run-inside is_gap bytes p (omega arith) in
     let parts = no-gap (is_blank (get_or bytes p 0)) (is_newline (get_or bytes p 0)) ink in
     let after : IsAt bytes (record { place = end; line = c.line; is_indent = false }) =
-        at-run bytes c end at (omega arith) (omega arith) (λ j j-lt. (no-gap (is_blank (get_or bytes (p + j) 0)) (is_newline (get_or bytes (p + j) 0)) (run-fails is_gap bytes p j (omega arith))).1) parts.0 in
+    at-run bytes c end at (omega arith) (omega arith) (λ j j-lt. (no-gap (is_blank (get_or bytes (p + j) 0)) (is_newline (get_or bytes (p + j) 0)) (run-fails is_gap bytes p j (omega arith))).1) parts.0 in
     let zero-is : p + 0 ≡ p = omega arith in
     let first : get_or (drop p bytes) 0 0 ≡ get_or bytes p 0 = get_or-drop p bytes 0 0 ∙ ap (λ i. get_or bytes i 0) zero-is in
     let b : (is_indent bytes p && eqb (get_or (drop p bytes) 0 0) 36) ≡ false = rw (first, ← at.indent) body in
     let a : left (is_indent bytes p) p (line_number bytes p) (drop p bytes) ≡ Word (record { start = p; end = p + k; line = line_number bytes p }) ∷ left false (p + k) (line_number bytes p) (drop k (drop p bytes)) =
-        over-token (is_indent bytes p) p (line_number bytes p) k (drop p bytes) refl some b in
+    over-token (is_indent bytes p) p (line_number bytes p) k (drop p bytes) refl some b in
     let d : drop k (drop p bytes) ≡ drop (p + k) bytes = drop-drop k p bytes in
     let e : ahead (spot bytes (p + k)) ≡ left false (p + k) (line_number bytes p) (drop (p + k) bytes) =
-        ahead-is bytes (p + k) ∙ rw (rw is at (sym after.indent), rw (is, at.line) at (sym after.line)) refl in
+    ahead-is bytes (p + k) ∙ rw (rw is at (sym after.indent), rw (is, at.line) at (sym after.line)) refl in
     record {
       some = omega arith;
       at = after;
@@ -234,15 +233,15 @@ past-header-newline bytes c end at lt dollar is more =
     let r : drop (m + 1) (drop p bytes) ≡ drop (p + (m + 1)) bytes = drop-drop (m + 1) p bytes in
     let q : p + (m + 1) ≡ p + m + 1 = omega arith in
     let t : ahead (spot bytes (p + m + 1)) ≡ left true (p + m + 1) (c.line + 1) (drop (p + m + 1) bytes) =
-        ahead-is bytes (p + m + 1) ∙ rw (rw e at (sym after.indent), rw e at (sym after.line)) refl in
+    ahead-is bytes (p + m + 1) ∙ rw (rw e at (sym after.indent), rw e at (sym after.line)) refl in
     let s : line_end bytes (p + 1) ≡ line_end bytes p = line_end-more bytes p lt (rw b refl) in
     record {
       at = after;
       stands = omega (arith, s);
       is =
-        let f : left (is_indent bytes p) p (line_number bytes p) (drop p bytes) ≡ left true p c.line (drop p bytes) = rw (sym at.indent ∙ parts.0, sym at.line) refl in
-        let g : left true (p + m + 1) (c.line + 1) (drop (m + 1) (drop p bytes)) ≡ ahead (spot bytes (end + 1)) = rw (e, r, q) (sym t) in
-        ahead-is bytes p ∙ (f ∙ (a ∙ ap (λ (items : List Item). Header (header_name bytes c) ∷ items) g));
+          let f : left (is_indent bytes p) p (line_number bytes p) (drop p bytes) ≡ left true p c.line (drop p bytes) = rw (sym at.indent ∙ parts.0, sym at.line) refl in
+          let g : left true (p + m + 1) (c.line + 1) (drop (m + 1) (drop p bytes)) ≡ ahead (spot bytes (end + 1)) = rw (e, r, q) (sym t) in
+          ahead-is bytes p ∙ (f ∙ (a ∙ ap (λ (items : List Item). Header (header_name bytes c) ∷ items) g));
     }
 
 pub past-header-last : (bytes : List ℕ) (c : Cursor) (end : ℕ) → IsAt bytes c → c.place < length bytes → (c.is_indent && eqb (get_or bytes c.place 0) 36) ≡ true → end ≡ line_end bytes c.place → length bytes ≤ end
@@ -257,7 +256,7 @@ past-header-last bytes c end at lt dollar is last =
     let d : length (drop p bytes) ≡ length bytes - p = length-drop p bytes in
     let inside : p + m ≤ length bytes = run-inside is_newline bytes p (omega arith) in
     let after : IsAt bytes (record { place = end; line = c.line; is_indent = false }) =
-        at-run bytes c end at (omega arith) (omega arith) (λ j j-lt. in-line bytes p end j is j-lt) (rw b refl) in
+    at-run bytes c end at (omega arith) (omega arith) (λ j j-lt. in-line bytes p end j is j-lt) (rw b refl) in
     let a : left true p c.line (drop p bytes) ≡ Header (header_name bytes c) ∷ [] = over-last-header p c.line (drop p bytes) (omega arith) (first-left bytes p 36 b) in
     let s : line_end bytes (p + 1) ≡ line_end bytes p = line_end-more bytes p lt (rw b refl) in
     record {
@@ -279,8 +278,8 @@ pub record Ended (bytes : List ℕ) (c : Cursor) : Type 0 where
 pub header-ahead : (bytes : List ℕ) (c : Cursor) → IsAt bytes c → c.place < length bytes → (c.is_indent && eqb (get_or bytes c.place 0) 36) ≡ true
     → (after : Cursor) × (ahead (spot bytes c.place) ≡ Header (header_name bytes c) ∷ ahead (spot bytes after.place))
 header-ahead bytes c at lt dollar = elim (cases_lt (line_end bytes c.place) (length bytes)) [
-    | inl more ↦ (record { place = line_end bytes c.place + 1; line = c.line + 1; is_indent = true }, (past-header-newline bytes c (line_end bytes c.place) at lt dollar refl more).is)
-    | inr last ↦ (record { place = line_end bytes c.place; line = c.line; is_indent = false }, (past-header-last bytes c (line_end bytes c.place) at lt dollar refl last).is)
+  | inl more ↦ (record { place = line_end bytes c.place + 1; line = c.line + 1; is_indent = true }, (past-header-newline bytes c (line_end bytes c.place) at lt dollar refl more).is)
+  | inr last ↦ (record { place = line_end bytes c.place; line = c.line; is_indent = false }, (past-header-last bytes c (line_end bytes c.place) at lt dollar refl last).is)
 ]
 
 ended-header : (bytes : List ℕ) (c : Cursor) (items : List Item) → ahead (spot bytes c.place) ≡ Header (header_name bytes c) ∷ items → Ended bytes c

@@ -1,14 +1,14 @@
 -- Where a quoted text is looked for, over gaps.
-use Rattle.std.proofs.Common.{◌≡◌, ℕ, zero, suc, ◌+◌, ◌-◌, ◌<◌, ◌≤◌, min, Bool, true, false, not, cond, eqb, leb, ◌&&◌, ◌||◌, List, [], ◌∷◌, ◌++◌, length, map, take, drop, get_or, Option, Some, None, Result, Ok, Err, refl, sym, ap, ◌∙◌, add-one, inl, inr, arith}
+use Rattle.std.proofs.Common.{◌≡◌, ℕ, suc, ◌+◌, ◌-◌, ◌<◌, ◌≤◌, Bool, true, false, not, cond, eqb, leb, ◌&&◌, List, [], ◌∷◌, ◌++◌, length, map, take, drop, get_or, Some, None, Result, Ok, Err, refl, sym, ap, ◌∙◌, add-one, inl, inr, arith}
 use Rattle.std.specs.Prelude.{find, flat_map}
 use Rattle.std.specs.List.{list_all, position_or_len}
-use Rattle.std.proofs.lemmas.Bool.{cases_lt, lt-leb, le-leb, leb-true, eqb-true, and_parts, cond-true, cond-false, eq-eqb, ne_eqb}
+use Rattle.std.proofs.lemmas.Bool.{cases_lt, lt-leb, le-leb, leb-true, eqb-true, and_parts, cond-false, eq-eqb, ne_eqb}
 use Rattle.std.proofs.lemmas.List.{drop_more, drop_all, drop-drop, get_or-take, map-append}
 use Rattle.std.proofs.lemmas.List.Folds.{length-prefix_len, list_all_at}
 use Rattle.text_defs.specs.Rows.{is_blank, is_newline, is_some_bytes, onto_first, parts, lines_of}
 use Rattle.scan_defs.specs.declared.Token.{Token}
 use Rattle.scan_defs.specs.Lines.{Line, lines_at, line_number, lines_from, is_indent, rest_of_line, line_end, front, back}
-use Rattle.scan_defs.specs.Items.{Spot, Item, Header, Word, is_header, name_of, tokens_at, tokens_on, words_on, items_on, items_of, ahead}
+use Rattle.scan_defs.specs.Items.{Item, Header, Word, is_header, name_of, tokens_at, tokens_on, words_on, items_on, items_of, ahead}
 use Rattle.scan_defs.specs.Steps.{is_on, behind_items_on}
 use Rattle.scan_defs.specs.Quotes.{is_quoted, quoted_on, or_line, quoted_where, quoted_from, quoted_in}
 use Rattle.scan.specs.Cursors.{is_gap, spot, IsAt}
@@ -43,8 +43,8 @@ get-cons b i text = rw add-one refl
 
 shift-le : (a b : ℕ) → leb (a + 1 + 2) (b + 1) ≡ leb (a + 2) b
 shift-le a b = elim (cases_lt b (a + 2)) [
-    | inl lt ↦ lt-leb (a + 1 + 2) (b + 1) (omega arith) ∙ sym (lt-leb (a + 2) b lt)
-    | inr ge ↦ le-leb (a + 1 + 2) (b + 1) (omega arith) ∙ sym (le-leb (a + 2) b ge)
+  | inl lt ↦ lt-leb (a + 1 + 2) (b + 1) (omega arith) ∙ sym (lt-leb (a + 2) b lt)
+  | inr ge ↦ le-leb (a + 1 + 2) (b + 1) (omega arith) ∙ sym (le-leb (a + 2) b ge)
 ]
 
 -- a text that begins at f and ends at k is quoted
@@ -91,14 +91,14 @@ pub quoted-newline : (bytes : List ℕ) (p : ℕ) → p < length bytes → is_ne
 quoted-newline bytes p lt is =
     let last : ℕ = line_number bytes (length bytes) in
     let a : quoted_from (spot bytes p) ≡ look last (p + 1) (line_number bytes p + 1) (drop (p + 1) bytes) =
-        quoted-is bytes p ∙ (ap (look last p (line_number bytes p)) (drop_more bytes p 0 lt) ∙ look-newline last p (line_number bytes p) (get_or bytes p 0) (drop (p + 1) bytes) is) in
+    quoted-is bytes p ∙ (ap (look last p (line_number bytes p)) (drop_more bytes p 0 lt) ∙ look-newline last p (line_number bytes p) (get_or bytes p 0) (drop (p + 1) bytes) is) in
     quoted-is bytes (p + 1) ∙ rw (number-newline bytes p lt is) (sym a)
 
 pub quoted-blank : (bytes : List ℕ) (p : ℕ) → p < length bytes → is_newline (get_or bytes p 0) ≡ false → is_blank (get_or bytes p 0) ≡ true → quoted_from (spot bytes (p + 1)) ≡ quoted_from (spot bytes p)
 quoted-blank bytes p lt other is =
     let last : ℕ = line_number bytes (length bytes) in
     let a : quoted_from (spot bytes p) ≡ look last (p + 1) (line_number bytes p) (drop (p + 1) bytes) =
-        quoted-is bytes p ∙ (ap (look last p (line_number bytes p)) (drop_more bytes p 0 lt) ∙ look-blank last p (line_number bytes p) (get_or bytes p 0) (drop (p + 1) bytes) other is) in
+    quoted-is bytes p ∙ (ap (look last p (line_number bytes p)) (drop_more bytes p 0 lt) ∙ look-blank last p (line_number bytes p) (get_or bytes p 0) (drop (p + 1) bytes) other is) in
     quoted-is bytes (p + 1) ∙ rw (number-other bytes p lt other) (sym a)
 
 -- ---- where neither a blank nor an LF stands, or at the end
@@ -143,7 +143,7 @@ here-ink bytes c is-at lt ink =
     let f : front (rest_of_line bytes p) ≡ 0 = front-none (rest_of_line bytes p) (get_or bytes p 0) first parts.0 in
     let inky : list_all is_blank (rest_of_line bytes p) ≡ false = list_all_at is_blank (rest_of_line bytes p) 0 0 (omega arith) (rw first parts.0) in
     let found : look (line_number bytes (length bytes)) p (line_number bytes p) rest ≡ or_line (line_number bytes p) (quoted_on (at p (line_number bytes p) (rest_of_line bytes p))) =
-        rw (lines-first rest, inky) refl in
+    rw (lines-first rest, inky) refl in
     record {
       front-is = f;
       lines = quoted-is bytes p ∙ (found ∙ rw (sym is-at.line) refl);
@@ -173,8 +173,8 @@ here-end bytes c is-at le =
 
 pub looks-here : (bytes : List ℕ) (c : Cursor) → IsAt bytes c → (c.place < length bytes → is_gap (get_or bytes c.place 0) ≡ false) → LooksHere bytes c
 looks-here bytes c is-at ink = elim (cases_lt c.place (length bytes)) [
-    | inl lt ↦ here-ink bytes c is-at lt (ink lt)
-    | inr le ↦ here-end bytes c is-at le
+  | inl lt ↦ here-ink bytes c is-at lt (ink lt)
+  | inr le ↦ here-end bytes c is-at le
 ]
 
 -- ---- what is found on a part of a line that begins without blanks
@@ -225,7 +225,7 @@ tokens-on place n [] = refl
 tokens-on place n (p ∷ ps) =
     let t : Token = record { start = place; end = place + length p; line = n } in
     rw (map-append Word (cond (is_some_bytes p) (t ∷ []) []) (tokens_at (place + length p + 1) n ps))
-      (some-on (is_some_bytes p) n t (map Word (tokens_at (place + length p + 1) n ps)) refl (tokens-on (place + length p + 1) n ps))
+    (some-on (is_some_bytes p) n t (map Word (tokens_at (place + length p + 1) n ps)) refl (tokens-on (place + length p + 1) n ps))
 
 words-on : (place n : ℕ) (text : List ℕ) → list_all (is_on n) (words_on (at place n text)) ≡ true
 unfolding tokens_on
@@ -279,7 +279,7 @@ left-end indent place n m bytes is =
     let a : left false (place + m) n (drop m bytes) ≡ X = rw (lines, no-items false (place + m) n, zero-is) refl in
     let b : left indent place n bytes ≡ cond indent (items_on (at place n text)) (words_on (at place n text)) ++ X = rw (lines-first bytes, len) refl in
     let s : behind_items_on n (cond indent (items_on (at place n text)) (words_on (at place n text)) ++ X) ≡ behind_items_on n X =
-        skip-on n (cond indent (items_on (at place n text)) (words_on (at place n text))) X (first-on indent place n text) in
+    skip-on n (cond indent (items_on (at place n text)) (words_on (at place n text))) X (first-on indent place n text) in
     let l : behind_items_on n X ≡ X = later-lines n (place + m + 1) (n + 1) (others (lines_of bytes)) (omega arith) in
     a ∙ (sym l ∙ (sym s ∙ ap (behind_items_on n) (sym b)))
 
@@ -299,7 +299,7 @@ past-quoted bytes c end is-at lt ink is =
     let inside : p + m ≤ length bytes = run-inside is_newline bytes p (omega arith) in
     let e : end ≡ p + m = is ∙ line_end-is bytes p in
     let after : IsAt bytes (record { place = end; line = c.line; is_indent = false }) =
-        at-run bytes c end is-at (omega arith) (omega arith) (λ j j-lt. in-line bytes p end j is j-lt) both-are.0 in
+    at-run bytes c end is-at (omega arith) (omega arith) (λ j j-lt. in-line bytes p end j is j-lt) both-are.0 in
     let d : drop m (drop p bytes) ≡ drop (p + m) bytes = drop-drop m p bytes in
     let a : ahead (spot bytes (p + m)) ≡ left false (p + m) c.line (drop (p + m) bytes) = ahead-is bytes (p + m) ∙ rw (rw e at (sym after.indent), rw e at (sym after.line)) refl in
     let b : left false (p + m) c.line (drop m (drop p bytes)) ≡ behind_items_on c.line (left (is_indent bytes p) p c.line (drop p bytes)) = left-end (is_indent bytes p) p c.line m (drop p bytes) refl in

@@ -1,5 +1,5 @@
 -- Decimal digits cut off at a place and rounded, against their exact value.
-use Rattle.std.proofs.Common.{◌≡◌, ℕ, zero, suc, ◌+◌, ◌-◌, ◌*◌, ◌/◌, ◌^◌, ◌<◌, ◌≤◌, min, Bool, true, false, cond, leb, List, [], ◌∷◌, ◌++◌, length, map, take, drop, get_or, Option, Some, None, ℤ, pos, negsuc, ◌+ℤ◌, ◌-ℤ◌, neg_ℤ, refl, sym, ap, ◌∙◌, add-one, append_assoc, inl, inr, arith}
+use Rattle.std.proofs.Common.{◌≡◌, ℕ, zero, suc, ◌+◌, ◌-◌, ◌*◌, ◌/◌, ◌^◌, ◌<◌, ◌≤◌, min, Bool, true, false, cond, leb, List, [], ◌∷◌, ◌++◌, length, map, take, drop, get_or, Some, None, ℤ, pos, negsuc, ◌+ℤ◌, ◌-ℤ◌, neg_ℤ, refl, sym, ap, ◌∙◌, add-one, inl, inr, arith}
 use Rattle.std.specs.List.{list_all}
 use Rattle.std.proofs.lemmas.Int.{ints}
 use Rattle.std.proofs.lemmas.Int.Digits.{number_after_lt, number_after_append}
@@ -11,8 +11,7 @@ use Rattle.std.proofs.Math.Nat.{pow-suc, pow-succ', pow-le-pow_right, mul_assoc}
 use Rattle.text_defs.specs.Numbers.{is_digit, number_of_digits}
 use Rattle.scan_defs.specs.Numbers.{scaled}
 use Rattle.scan_defs.proofs.Huge.{ten_pow-pos, number_of_digits-lt, scaled-zero, scaled-great, scaled-small, digits_below}
-use Rattle.scan.specs.declared.parts.Power.{Power}
-use Rattle.scan.specs.Rounding.{in_range, kept_value, kept_places, size_where, size_of}
+use Rattle.scan.specs.Rounding.{in_range, kept_value, size_of}
 use Rattle.scan.proofs.Digits.{after, after-ge, digit_bounds}
 
 -- ---- in range or not
@@ -22,7 +21,6 @@ range-some n m e le = rw (e, le-leb m (9 * 10 ^ 18) le) refl
 
 pub range-none : (n : ℕ) → 9 * 10 ^ 18 < n → None ≡ in_range n
 range-none n lt = rw (lt-leb n (9 * 10 ^ 18) lt) refl
-
 
 some-at : (b : Bool) (n m : ℕ) → leb n (9 * 10 ^ 18) ≡ b → Some m ≡ cond b (Some n) None → (m ≡ n) × (n ≤ 9 * 10 ^ 18)
 some-at true n m e s = (cc, leb-true n (9 * 10 ^ 18) e)
@@ -226,19 +224,19 @@ scaled-none ds k all le =
 -- so many digits are kept
 kept-size : (ds : List ℕ) (keep : ℕ) (e : ℤ) → list_all is_digit ds ≡ true → e ≡ pos keep -ℤ pos (length ds) → scaled (number_of_digits ds) e ≡ kept_value ds keep
 kept-size ds keep e all is = elim (cases_lt keep (length ds)) [
-    | inl lt ↦ let k : e ≡ negsuc (length ds - keep - 1) = omega (arith, ints, is) in ap (scaled (number_of_digits ds)) k ∙ scaled-cut ds keep all lt
-    | inr ge ↦ let k : e ≡ pos (keep - length ds) = omega (arith, ints, is) in ap (scaled (number_of_digits ds)) k ∙ scaled-whole ds keep ge
+  | inl lt ↦ let k : e ≡ negsuc (length ds - keep - 1) = omega (arith, ints, is) in ap (scaled (number_of_digits ds)) k ∙ scaled-cut ds keep all lt
+  | inr ge ↦ let k : e ≡ pos (keep - length ds) = omega (arith, ints, is) in ap (scaled (number_of_digits ds)) k ∙ scaled-whole ds keep ge
 ]
 
 -- a power that is cut down to the greatest number reads as itself: all digits are 0, or both are out of range
 far-size : (ds : List ℕ) (keep k : ℕ) → length ds + 19 ≤ keep → 19 ≤ k → in_range (scaled (number_of_digits ds) (pos k)) ≡ in_range (kept_value ds keep)
 far-size ds keep k far great = elim (cases_lt 0 (number_of_digits ds)) [
-    | inl some ↦
+  | inl some ↦
       let le : length ds ≤ keep = omega arith in
       let a : 9 * 10 ^ 18 < scaled (number_of_digits ds) (pos k) = scaled-great (number_of_digits ds) k (omega arith) great in
       let b : 9 * 10 ^ 18 < scaled (number_of_digits ds) (pos (keep - length ds)) = scaled-great (number_of_digits ds) (keep - length ds) (omega arith) (omega arith) in
       sym (range-none (scaled (number_of_digits ds) (pos k)) a) ∙ range-none (kept_value ds keep) (rw (← scaled-whole ds keep le) b)
-    | inr none ↦
+  | inr none ↦
       let le : length ds ≤ keep = omega arith in
       let zero-is : number_of_digits ds ≡ 0 = omega arith in
       let a : scaled (number_of_digits ds) (pos k) ≡ 0 = ap (λ m. scaled m (pos k)) zero-is ∙ scaled-zero (pos k) in
@@ -246,20 +244,19 @@ far-size ds keep k far great = elim (cases_lt 0 (number_of_digits ds)) [
       ap in_range (a ∙ sym b ∙ scaled-whole ds keep le)
 ]
 
-
 size-plus : (whole fraction : List ℕ) (power : ℕ) → list_all is_digit (whole ++ fraction) ≡ true → length whole + length fraction < 2 ^ 63
     → in_range (scaled (number_of_digits (whole ++ fraction)) (shift false power (length fraction))) ≡ size_of whole fraction (record { minus = false; size = min power (2 ^ 64 - 1) })
 unfolding size_of
 size-plus whole fraction power all short =
     let n : length (whole ++ fraction) ≡ length whole + length fraction = length-append whole fraction in
     elim (cases_lt (2 ^ 64 - 1) (length whole + 10 + power)) [
-    | inl gt ↦
-      let keep : min (length whole + 10 + min power (2 ^ 64 - 1)) (2 ^ 64 - 1) ≡ 2 ^ 64 - 1 = omega arith in
-      let e : shift false power (length fraction) ≡ pos (power + 10 - length fraction) = omega (arith, ints) in
-      rw (keep, e) (far-size (whole ++ fraction) (2 ^ 64 - 1) (power + 10 - length fraction) (omega arith) (omega arith))
-    | inr le ↦
-      let keep : min (length whole + 10 + min power (2 ^ 64 - 1)) (2 ^ 64 - 1) ≡ length whole + 10 + power = omega arith in
-      rw keep (ap in_range (kept-size (whole ++ fraction) (length whole + 10 + power) (shift false power (length fraction)) all (omega (arith, ints, n))))
+      | inl gt ↦
+          let keep : min (length whole + 10 + min power (2 ^ 64 - 1)) (2 ^ 64 - 1) ≡ 2 ^ 64 - 1 = omega arith in
+          let e : shift false power (length fraction) ≡ pos (power + 10 - length fraction) = omega (arith, ints) in
+          rw (keep, e) (far-size (whole ++ fraction) (2 ^ 64 - 1) (power + 10 - length fraction) (omega arith) (omega arith))
+      | inr le ↦
+          let keep : min (length whole + 10 + min power (2 ^ 64 - 1)) (2 ^ 64 - 1) ≡ length whole + 10 + power = omega arith in
+          rw keep (ap in_range (kept-size (whole ++ fraction) (length whole + 10 + power) (shift false power (length fraction)) all (omega (arith, ints, n))))
     ]
 
 size-minus : (whole fraction : List ℕ) (power : ℕ) → list_all is_digit (whole ++ fraction) ≡ true → length whole + length fraction < 2 ^ 63
@@ -268,16 +265,16 @@ unfolding size_of
 size-minus whole fraction power all short =
     let n : length (whole ++ fraction) ≡ length whole + length fraction = length-append whole fraction in
     elim (cases_lt (length whole + 10) (min power (2 ^ 64 - 1))) [
-    | inl gt ↦
-      let e : shift true power (length fraction) ≡ negsuc (power + length fraction - 11) = omega (arith, ints) in
-      let z : scaled (number_of_digits (whole ++ fraction)) (shift true power (length fraction)) ≡ 0 =
+      | inl gt ↦
+          let e : shift true power (length fraction) ≡ negsuc (power + length fraction - 11) = omega (arith, ints) in
+          let z : scaled (number_of_digits (whole ++ fraction)) (shift true power (length fraction)) ≡ 0 =
           ap (scaled (number_of_digits (whole ++ fraction))) e ∙ scaled-none (whole ++ fraction) (power + length fraction - 11) all (omega arith) in
-      rw (z, lt-leb (min power (2 ^ 64 - 1)) (length whole + 10) gt) refl
-    | inr le ↦
-      let same : min power (2 ^ 64 - 1) ≡ power = omega arith in
-      let small : power ≤ length whole + 10 = omega arith in
-      rw (same, le-leb power (length whole + 10) small)
-        (ap in_range (kept-size (whole ++ fraction) (length whole + 10 - power) (shift true power (length fraction)) all (omega (arith, ints, n))))
+          rw (z, lt-leb (min power (2 ^ 64 - 1)) (length whole + 10) gt) refl
+      | inr le ↦
+          let same : min power (2 ^ 64 - 1) ≡ power = omega arith in
+          let small : power ≤ length whole + 10 = omega arith in
+          rw (same, le-leb power (length whole + 10) small)
+          (ap in_range (kept-size (whole ++ fraction) (length whole + 10 - power) (shift true power (length fraction)) all (omega (arith, ints, n))))
     ]
 
 pub size-is : (whole fraction : List ℕ) (minus : Bool) (power : ℕ) → list_all is_digit (whole ++ fraction) ≡ true → length whole + length fraction < 2 ^ 63

@@ -1,10 +1,10 @@
 -- Parts of lists of bytes between those that pass a test, seen from a place in the first of them.
-use Rattle.std.proofs.Common.{◌≡◌, ℕ, zero, suc, ◌+◌, ◌-◌, ◌<◌, ◌≤◌, Bool, true, false, not, cond, eqb, ◌||◌, List, [], ◌∷◌, ◌++◌, length, take, drop, get_or, reverse, refl, sym, ap, ◌∙◌, add-one, inl, inr, arith}
+use Rattle.std.proofs.Common.{◌≡◌, ℕ, zero, suc, ◌+◌, ◌-◌, ◌<◌, ◌≤◌, Bool, true, false, not, cond, ◌||◌, List, [], ◌∷◌, ◌++◌, length, take, drop, get_or, reverse, refl, ap, ◌∙◌, inl, inr, arith}
 use Rattle.std.specs.List.{list_all, prefix_len, position_or_len, suffix_len}
 use Rattle.std.proofs.lemmas.Bool.{cases_lt, ne_eqb, cond-false}
 use Rattle.std.proofs.lemmas.List.{length-reverse, get_or-reverse, get_or_past, get_or_default, reverse-append}
 use Rattle.std.proofs.lemmas.List.Folds.{prefix_len-append}
-use Rattle.std.proofs.lemmas.List.Sums.{prefix_len-le-length, suffix_len-le-length, prefix_len_passes, list_all-from_AllPass}
+use Rattle.std.proofs.lemmas.List.Sums.{prefix_len_passes, list_all-from_AllPass}
 use Rattle.text_defs.specs.Rows.{is_blank, is_newline, onto_first, parts}
 use Rattle.scan_defs.specs.Lines.{front, back}
 use Rattle.scan.specs.Cursors.{is_gap}
@@ -68,7 +68,7 @@ back-cons b xs some =
     let n = length-reverse xs in
     let s : suffix_len is_blank xs < length xs = omega arith in
     let e : suffix_len is_blank (b ∷ xs) ≡ suffix_len is_blank xs =
-        ap (prefix_len is_blank) (reverse-cons b xs) ∙ (prefix_len-append is_blank (reverse xs) (b ∷ []) ∙ cond-false _ _ _ (ne_eqb (prefix_len is_blank (reverse xs)) (length (reverse xs)) (λ q. omega (arith, n, q)))) in
+    ap (prefix_len is_blank) (reverse-cons b xs) ∙ (prefix_len-append is_blank (reverse xs) (b ∷ []) ∙ cond-false _ _ _ (ne_eqb (prefix_len is_blank (reverse xs)) (length (reverse xs)) (λ q. omega (arith, n, q)))) in
     omega (arith, e)
 
 -- with nothing before the end all bytes are blanks
@@ -83,17 +83,17 @@ all-blank xs k none lt =
 -- a byte that is no blank stands before the end
 pub back-pos : (xs : List ℕ) → get_or xs (front xs) 0 ≡ 36 → 0 < back xs
 back-pos xs e = elim (cases_lt 0 (back xs)) [
-    | inl some ↦ some
-    | inr none ↦ elim (cases_lt (front xs) (length xs)) [
-      | inl lt ↦ let b : is_blank 36 ≡ true = rw e at (all-blank xs (front xs) none lt) in absurd (cc b)
-      | inr ge ↦ let past = get_or_past xs (front xs) 0 ge in absurd (omega (arith, past, e))
-    ]
+  | inl some ↦ some
+  | inr none ↦ elim (cases_lt (front xs) (length xs)) [
+    | inl lt ↦ let b : is_blank 36 ≡ true = rw e at (all-blank xs (front xs) none lt) in absurd (cc b)
+    | inr ge ↦ let past = get_or_past xs (front xs) 0 ge in absurd (omega (arith, past, e))
+  ]
 ]
 
 pub back-some : (xs : List ℕ) → list_all is_blank xs ≡ false → 0 < back xs
 back-some xs e = elim (cases_lt 0 (back xs)) [
-    | inl some ↦ some
-    | inr none ↦
+  | inl some ↦ some
+  | inr none ↦
       let all : list_all is_blank xs ≡ true = list_all-from_AllPass is_blank xs (λ k d lt. rw (get_or_default xs k d 0 lt) (all-blank xs k none lt)) in
       absurd (cc (e, all))
 ]

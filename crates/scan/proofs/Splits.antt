@@ -1,12 +1,11 @@
 -- The parts of a fixed-point number, against the definition.
-use Rattle.std.proofs.Common.{◌≡◌, ℕ, suc, ◌+◌, ◌-◌, ◌*◌, ◌^◌, ◌<◌, ◌≤◌, ◌+ℤ◌, ◌-ℤ◌, min, Bool, true, false, not, cond, ltb, leb, ◌&&◌, ◌||◌, List, [], ◌∷◌, ◌++◌, length, take, drop, Option, Some, None, Ok, Err, ℤ, pos, neg_ℤ, refl, sym, ap, ◌∙◌, inl, inr, ◌⊎◌, arith}
-use Rattle.std.specs.Prelude.{position, option_map}
-use Rattle.std.specs.List.{list_any, list_all, prefix_len, position_or_len, before_first, after_first}
-use Rattle.std.proofs.lemmas.Bool.{ltb-true, ltb-false, lt-ltb, le-ltb, and_parts, cases_lt}
+use Rattle.std.proofs.Common.{◌≡◌, ℕ, suc, ◌+◌, ◌-◌, ◌*◌, ◌^◌, ◌<◌, ◌≤◌, ◌+ℤ◌, ◌-ℤ◌, min, Bool, true, false, not, cond, ltb, leb, ◌&&◌, ◌||◌, List, [], ◌∷◌, ◌++◌, length, Some, None, Ok, Err, ℤ, pos, refl, sym, ap, ◌∙◌, inl, inr, ◌⊎◌, arith}
+use Rattle.std.specs.List.{list_any, list_all, position_or_len, before_first, after_first}
+use Rattle.std.proofs.lemmas.Bool.{lt-ltb, le-ltb, and_parts, cases_lt}
 use Rattle.std.proofs.lemmas.List.{length-take, length-drop}
 use Rattle.text_defs.specs.Numbers.{is_digit, number_of_digits}
 use Rattle.scan_defs.specs.declared.NumberFault.TheVariants.{NotNumber, OutOfRange}
-use Rattle.scan_defs.specs.Numbers.{is_whole, is_sign, is_minus, unsigned, signed, Decimal, is_mark, is_point, mantissa, exponent, has_exponent, whole_part, fraction, is_fixed, power, decimal_of, scaled, fixed_value, fixed_where, fixed_of}
+use Rattle.scan_defs.specs.Numbers.{is_whole, is_sign, is_minus, unsigned, signed, Decimal, is_mark, is_point, mantissa, exponent, has_exponent, whole_part, fraction, is_fixed, power, decimal_of, scaled, fixed_value, fixed_of}
 use Rattle.scan_defs.proofs.Huge.{value-is, value-out}
 use Rattle.scan.specs.declared.parts.Power.{Power}
 use Rattle.scan.specs.declared.parts.Parts.{Parts}
@@ -19,8 +18,8 @@ use Rattle.scan.proofs.Rounds.{in_range-some, in_range-none, size-is}
 any-cons : (b l : Bool) (n len : ℕ) → l ≡ ltb n len → (b || l) ≡ ltb (cond (not b) (1 + n) 0) (suc len)
 any-cons true l n len e = sym (lt-ltb 0 (suc len) (omega arith))
 any-cons false l n len e = elim (cases_lt n len) [
-    | inl lt ↦ e ∙ lt-ltb n len lt ∙ sym (lt-ltb (1 + n) (suc len) (omega arith))
-    | inr ge ↦ e ∙ le-ltb n len ge ∙ sym (le-ltb (1 + n) (suc len) (omega arith))
+  | inl lt ↦ e ∙ lt-ltb n len lt ∙ sym (lt-ltb (1 + n) (suc len) (omega arith))
+  | inr ge ↦ e ∙ le-ltb n len ge ∙ sym (le-ltb (1 + n) (suc len) (omega arith))
 ]
 
 any-place : (test : ℕ → Bool) (xs : List ℕ) → list_any test xs ≡ ltb (position_or_len test xs) (length xs)
@@ -57,8 +56,8 @@ fixed-at d h p a b c = rw (a, b, c) refl
 
 pub not-power : (token : List ℕ) → is_whole (whole_part token ++ fraction token) ≡ true → None ≡ power_read (behind_first is_mark (unsigned token)) → is_fixed token ≡ false
 not-power token digits none = elim (marks (unsigned token)) [
-    | inl free ↦ let e = rw free.1 at none in absurd (cc e)
-    | inr marked ↦ let e = rw marked.1 at none in fixed-at (is_whole (whole_part token ++ fraction token)) (has_exponent token) (is_whole (unsigned (exponent token))) digits marked.0 (cond-none (is_whole (unsigned (exponent token))) _ e)
+  | inl free ↦ let e = rw free.1 at none in absurd (cc e)
+  | inr marked ↦ let e = rw marked.1 at none in fixed-at (is_whole (whole_part token ++ fraction token)) (has_exponent token) (is_whole (unsigned (exponent token))) digits marked.0 (cond-none (is_whole (unsigned (exponent token))) _ e)
 ]
 
 -- ---- tokens of this shape
@@ -85,7 +84,7 @@ value-some h x e = rw e refl
 
 pub power-is : (token : List ℕ) (read : Power) → Some read ≡ power_read (behind_first is_mark (unsigned token)) → HasPower token read
 power-is token read e = elim (marks (unsigned token)) [
-    | inl free ↦
+  | inl free ↦
       let s = rw free.1 at e in
       let r : read ≡ record { minus = false; size = 0 } = cc s in
       record {
@@ -94,7 +93,7 @@ power-is token read e = elim (marks (unsigned token)) [
         capped = rw r (omega arith);
         shape = shape-none (has_exponent token) (is_whole (unsigned (exponent token))) free.0;
       }
-    | inr marked ↦
+  | inr marked ↦
       let s = rw marked.1 at e in
       let both = cond-some (is_whole (unsigned (exponent token))) (record { minus = is_minus (exponent token); size = min (number_of_digits (unsigned (exponent token))) (2 ^ 64 - 1) }) read s in
       record {
@@ -165,8 +164,8 @@ size-exact token parts h short =
     let all = digits-of token parts h in
     let n = length-parts token in
     let e : in_range (scaled (number_of_digits (whole_part token ++ fraction token)) ((signed parts.power.minus p.size -ℤ pos (length (fraction token))) +ℤ pos 10))
-        ≡ size_of (whole_part token) (fraction token) (record { minus = parts.power.minus; size = min p.size (2 ^ 64 - 1) })
-      = size-is (whole_part token) (fraction token) parts.power.minus p.size (rw (h.whole, h.fraction) at all) (omega arith) in
+    ≡ size_of (whole_part token) (fraction token) (record { minus = parts.power.minus; size = min p.size (2 ^ 64 - 1) })
+    = size-is (whole_part token) (fraction token) parts.power.minus p.size (rw (h.whole, h.fraction) at all) (omega arith) in
     rw (p.value, h.whole, h.fraction) (e ∙ ap (λ (s : ℕ). size_of (whole_part token) (fraction token) (record { minus = parts.power.minus; size = s })) (sym p.capped))
 
 pub fixed-no : (token : List ℕ) → is_fixed token ≡ false → fixed_of token ≡ Err NotNumber

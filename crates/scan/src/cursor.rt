@@ -56,7 +56,11 @@ pub fn past_gaps(bytes: &[u8], from: Cursor) -> Cursor
         let byte = bytes[at.place];
         let place = at.place + 1;
         if is_newline(byte) {
-            at = Cursor { place, line: at.line + 1, is_indent: true };
+            at = Cursor {
+                place,
+                line: at.line + 1,
+                is_indent: true,
+            };
         } else if is_blank(byte) {
             at = Cursor { place, ..at };
         } else {
@@ -167,9 +171,17 @@ pub fn past_header(bytes: &[u8], at: Cursor) -> Cursor
 {
     let end = line_end(bytes, at.place);
     if end < bytes.len() {
-        Cursor { place: end + 1, line: at.line + 1, is_indent: true }
+        Cursor {
+            place: end + 1,
+            line: at.line + 1,
+            is_indent: true,
+        }
     } else {
-        Cursor { place: end, line: at.line, is_indent: false }
+        Cursor {
+            place: end,
+            line: at.line,
+            is_indent: false,
+        }
     }
 }
 

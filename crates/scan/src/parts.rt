@@ -81,7 +81,10 @@ fn read_power(exponent: Option<&[u8]>) -> Option<Power>
     ensures { result ≡ power_read (option_map (λ text. text.now) exponent.entry) }
 {
     let Some(text) = exponent else {
-        return Some(Power { minus: false, size: 0 });
+        return Some(Power {
+            minus: false,
+            size: 0,
+        });
     };
     let (minus, digits) = split_sign(text);
     let size = number_up_to_most(digits)?;
@@ -101,5 +104,10 @@ pub fn split_parts(token: &[u8]) -> Option<Parts<'_>>
     let Some(power) = read_power(exponent) else {
         return None;
     };
-    Some(Parts { minus, whole, fraction, power })
+    Some(Parts {
+        minus,
+        whole,
+        fraction,
+        power,
+    })
 }

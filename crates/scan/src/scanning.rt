@@ -44,7 +44,11 @@ impl<'a> Scan<'a> {
     {
         Scan {
             bytes,
-            at: Cursor { place: 0, line: 1, is_indent: true },
+            at: Cursor {
+                place: 0,
+                line: 1,
+                is_indent: true,
+            },
         }
     }
 
@@ -84,7 +88,11 @@ impl<'a> Scan<'a> {
         }
         let end = past_token(self.bytes, at);
         self.at = end;
-        Some(Token { start: at.place, end: end.place, line: at.line })
+        Some(Token {
+            start: at.place,
+            end: end.place,
+            line: at.line,
+        })
     }
 
     /// The name on the next header line; none where no header line is left.
@@ -132,8 +140,16 @@ impl<'a> Scan<'a> {
         let Some(last) = last_quote(&self.bytes[at.place..end]) else {
             return Err(at.line);
         };
-        self.at = Cursor { place: end, line: at.line, is_indent: false };
-        Ok(Token { start: at.place + 1, end: at.place + last, line: at.line })
+        self.at = Cursor {
+            place: end,
+            line: at.line,
+            is_indent: false,
+        };
+        Ok(Token {
+            start: at.place + 1,
+            end: at.place + last,
+            line: at.line,
+        })
     }
 }
 

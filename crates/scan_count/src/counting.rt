@@ -23,7 +23,11 @@ fn is_coordinate(place: u32) -> bool {
 fn added(text: &[u8], is_coordinate: bool) -> Result<i64, NumberFault>
     ensures { IfOk result IsStep }
 {
-    if is_coordinate { read_fixed(text) } else { Ok(0) }
+    if is_coordinate {
+        read_fixed(text)
+    } else {
+        Ok(0)
+    }
 }
 
 fn plus(sum: i128, value: i64) -> i128

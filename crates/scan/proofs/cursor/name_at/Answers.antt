@@ -1,6 +1,5 @@
-use Rattle.std.proofs.Common.{◌≡◌, ◌≤◌, ◌-◌, length, take, drop, refl, sym, ap, ◌∙◌, arith}
-use Rattle.scan_defs.specs.Lines.{back, rest_of_line}
-use Rattle.scan_defs.specs.declared.Token.{Token}
+use Rattle.std.proofs.Common.{refl, ap, ◌∙◌}
+use Rattle.scan_defs.specs.Lines.{back}
 use Rattle.scan.proofs.Places.{line-slice, name-within}
 use Rattle.scan.proofs.cursor.name_at.Goals as goal
 

@@ -1,4 +1,4 @@
-use Rattle.std.proofs.Common.{◌≡◌, true, sym, ◌∙◌, arith}
+use Rattle.std.proofs.Common.{sym, ◌∙◌, arith}
 use Rattle.scan.proofs.Places.{at-newline, at-blank, ahead-newline, ahead-blank, number-le}
 use Rattle.scan.proofs.Quoting.{quoted-newline, quoted-blank}
 use Rattle.scan.proofs.cursor.past_gaps.Goals as goal

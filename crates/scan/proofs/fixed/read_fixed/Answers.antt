@@ -1,4 +1,4 @@
-use Rattle.std.proofs.Common.{◌≡◌, ◌<◌, ◌^◌, length, sym, ap, ◌∙◌, rules, arith}
+use Rattle.std.proofs.Common.{sym, ap, ◌∙◌, rules, arith}
 use Rattle.std.proofs.Common.{Ok, w64}
 use Rattle.std.proofs.lemmas.Int.{to_z-of_z}
 use Rattle.scan.proofs.Splits.{fixed-no, fixed-out, fixed-some}

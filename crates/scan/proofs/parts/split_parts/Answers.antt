@@ -1,6 +1,6 @@
-use Rattle.std.proofs.Common.{◌≡◌, refl, sym, ap, ◌∙◌}
+use Rattle.std.proofs.Common.{sym, ap, ◌∙◌}
 use Rattle.std.specs.List.{before_first, after_first}
-use Rattle.scan_defs.specs.Numbers.{is_mark, is_point, whole_part, fraction, unsigned}
+use Rattle.scan_defs.specs.Numbers.{is_mark, is_point}
 use Rattle.scan.specs.Parts.{behind_first, power_read}
 use Rattle.scan.proofs.Splits.{not-digits, not-power, has-parts}
 use Rattle.scan.proofs.parts.split_parts.Goals as goal
@@ -30,4 +30,4 @@ returns c =
     let f = c.split_point.ensures.behind ∙ ap (after_first is_point) m in
     let p = sym c.in-Some.is ∙ c.read_power.ensures ∙ ap power_read (c.split_mark.ensures.behind ∙ ap (behind_first is_mark) u) in
     has-parts c.args.token.now (record { minus = c.split_sign-minus.result.0; whole = c.split_point.result.0; fraction = c.split_point.result.1; power = c.in-Some.power })
-      c.split_sign-minus.ensures.minus w f (sym c.are_some_digits.ensures ∙ c.if-not-are_some_digits.false) p
+    c.split_sign-minus.ensures.minus w f (sym c.are_some_digits.ensures ∙ c.if-not-are_some_digits.false) p

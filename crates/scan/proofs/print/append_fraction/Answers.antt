@@ -1,5 +1,5 @@
-use Rattle.std.proofs.Common.{◌≡◌, ◌∙◌, sym, ap, arith}
-use Rattle.scan.proofs.Fractions.{fraction-step, fraction-done, fraction-end, first-digit, front-append}
+use Rattle.std.proofs.Common.{arith}
+use Rattle.scan.proofs.Fractions.{fraction-step, fraction-done, fraction-end, front-append}
 use Rattle.scan.proofs.print.append_fraction.Goals as goal
 
 pub loop-place-preserved : goal.loop-place-preserved

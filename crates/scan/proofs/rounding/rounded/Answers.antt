@@ -1,6 +1,3 @@
-use Rattle.std.proofs.Common.{◌≡◌, Some, None, ◌∙◌, sym, arith}
-use Rattle.scan.specs.Rounding.{in_range}
-use Rattle.scan.proofs.Digits.{after}
 use Rattle.scan.proofs.Rounds.{all-take, kept-none-whole, kept-none-fraction, kept-none-zeros, kept-some, kept-down, kept-up, kept-above}
 use Rattle.scan.proofs.rounding.rounded.Goals as goal
 

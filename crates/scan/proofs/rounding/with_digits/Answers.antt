@@ -1,5 +1,5 @@
 use Rattle.std.proofs.Common.{◌+◌, ◌-◌, ◌*◌, get_or, drop, ◌∙◌, sym, arith}
-use Rattle.scan.proofs.Digits.{after, after_more, after_all, after-ge, digit_bounds}
+use Rattle.scan.proofs.Digits.{after_more, after_all, after-ge, digit_bounds}
 use Rattle.scan.proofs.Rounds.{range-none, range-some}
 use Rattle.scan.proofs.rounding.with_digits.Goals as goal
 

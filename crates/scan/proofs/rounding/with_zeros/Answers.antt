@@ -1,4 +1,4 @@
-use Rattle.std.proofs.Common.{◌∙◌, sym, arith}
+use Rattle.std.proofs.Common.{arith}
 use Rattle.scan.proofs.Rounds.{range-none, range-some, zeros-above, zeros-more, zeros-all}
 use Rattle.scan.proofs.rounding.with_zeros.Goals as goal
 

@@ -1,5 +1,4 @@
-use Rattle.std.proofs.Common.{◌≡◌, ◌-◌, ◌^◌, ◌≤◌, not, true, get_or, length, refl, sym, ◌∙◌, arith}
-use Rattle.std.proofs.lemmas.Bool.{not-false}
+use Rattle.std.proofs.Common.{◌-◌, ◌^◌, ◌≤◌, get_or, length, refl, sym, ◌∙◌, arith}
 use Rattle.std.proofs.lemmas.Bool.Decides.{nat_tests}
 use Rattle.scan.proofs.Digits.{capped_more, capped_all, capped_some, all_more, all_all}
 use Rattle.scan.proofs.whole.number_up_to_most.Goals as goal
@@ -20,4 +19,4 @@ returns c =
     let i = c.loop-digit.digit-index in
     let some : 1 ≤ length ds = grind (arith, nat_tests) in
     capped_some ds c.loop-digit.number some (sym c.loop-digit.invariant.digits ∙ all_all ds i c.loop-digit-test.false)
-      (capped_all (2 ^ 64 - 1) c.loop-digit.number ds i c.loop-digit-test.false (omega arith) ∙ c.loop-digit.invariant.number)
+    (capped_all (2 ^ 64 - 1) c.loop-digit.number ds i c.loop-digit-test.false (omega arith) ∙ c.loop-digit.invariant.number)

@@ -1,4 +1,4 @@
-use Rattle.std.proofs.Common.{◌+◌, refl, sym, ap, ◌∙◌, arith}
+use Rattle.std.proofs.Common.{refl, sym, ◌∙◌}
 use Rattle.scan.proofs.Quoting.{none-quoted, some-quoted, front-slice}
 use Rattle.scan.proofs.scanning.Scan.quoted.Goals as goal
 

@@ -1,6 +1,4 @@
-use Rattle.std.proofs.Common.{refl, sym, ap, ◌∙◌}
-use Rattle.std.proofs.lemmas.Bool.{not-true}
-use Rattle.scan_defs.specs.Items.{ahead}
+use Rattle.std.proofs.Common.{refl, sym, ◌∙◌}
 use Rattle.scan.proofs.Places.{ended}
 use Rattle.scan.proofs.scanning.Scan.token.Goals as goal
 
