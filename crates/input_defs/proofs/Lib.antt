@@ -1,0 +1,2 @@
+pub mod MshRows
+pub mod FormRows

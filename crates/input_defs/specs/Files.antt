@@ -1,0 +1,204 @@
+-- A whole mesh file: its content, or its first fault. A block is a header line with the tokens up to the next one.
+use Rattle.std.specs.Prelude.{ℕ, ◌+◌, Bool, true, false, not, ◌&&◌, ◌||◌, ◌==◌, nat_le, if◌then◌else◌, List, [], ◌∷◌, ◌++◌, length, map, take, find, codes, Option, Some, None, option_map, is_some, is_none, unwrap_or, Result, Ok, Err}
+use Rattle.mesh_defs.specs.declared.Place.{Place}
+use Rattle.mesh_defs.specs.declared.Place.TheVariants as place
+use Rattle.mesh_defs.specs.Lists.{same_list}
+use Rattle.mesh_defs.specs.Mesh.{Name, Section}
+use Rattle.text_defs.specs.Content.{Node, Element, Content}
+use Rattle.scan_defs.specs.Lines.{line_number}
+use Rattle.scan_defs.specs.Items.{Item, Header, Word, text_of, items, body}
+use Rattle.input_defs.specs.declared.What.TheVariants as what
+use Rattle.input_defs.specs.declared.DataFault.{DataFault}
+use Rattle.input_defs.specs.declared.DataFault.TheVariants as data_fault
+use Rattle.input_defs.specs.declared.MshFault.{MshFault}
+use Rattle.input_defs.specs.declared.MshFault.TheVariants.{NotMsh, Header as WrongHeader, BadNumber, BadCount, BadName, Unclosed, RepeatedSection, MissingSection, Components, UnknownNumber, OutOfRange, TooMany, NoMemory}
+use Rattle.input_defs.specs.Bodies.{Lexeme, lexeme_of, whole}
+use Rattle.input_defs.specs.Sections.{faults_of, format, names, nodes, elements}
+use Rattle.input_defs.specs.DataSections.{section_of}
+
+pub record Block : Type 0 where
+  pub name : List ℕ
+  pub line : ℕ
+  pub body : List Lexeme
+
+-- the blocks of a file; tokens before the first header line say nothing
+unfoldable pub blocks_of : List ℕ → List Item → List Block
+blocks_of bytes [] = []
+blocks_of bytes (Header name ∷ items) = record { name = text_of bytes name; line = name.line; body = map (lexeme_of bytes) (body items) } ∷ blocks_of bytes items
+blocks_of bytes (Word token ∷ items) = blocks_of bytes items
+
+-- ---- sections
+
+pub data Known : Type 0 where
+  Format : Known
+  Names : Known
+  Nodes : Known
+  Elements : Known
+  Data : Place → Known
+
+abbrev pub known_names : List (List ℕ × Known)
+known_names = (codes "MeshFormat", Format) ∷ (codes "PhysicalNames", Names) ∷ (codes "Nodes", Nodes) ∷ (codes "Elements", Elements)
+    ∷ (codes "NodeData", Data place.Node) ∷ (codes "ElementData", Data place.Element) ∷ []
+
+abbrev pub known : List ℕ → Option Known
+known name = option_map (λ (row : List ℕ × Known). row.1) (find (λ row. same_list row.0 name) known_names)
+
+-- the name on the closing line of a section
+abbrev pub closing : List ℕ → List ℕ
+closing name = codes "End" ++ name
+
+abbrev pub closes : List ℕ → Block → Bool
+closes name block = same_list block.name (closing name)
+
+-- what was read up to here: each section that stood, and the data sections in file order
+pub record Parts : Type 0 where
+  pub format : Bool
+  pub names : Option (List Name)
+  pub nodes : Option (List Node)
+  pub elements : Option (List Element)
+  pub fields : List Section
+
+abbrev pub nothing : Parts
+nothing = record { format = false; names = None; nodes = None; elements = None; fields = [] }
+
+abbrev pub node_numbers : Parts → List ℕ
+node_numbers parts = map (λ (node : Node). node.number) (unwrap_or parts.nodes [])
+
+abbrev pub element_numbers : Parts → List ℕ
+element_numbers parts = map (λ (element : Element). element.number) (unwrap_or parts.elements [])
+
+-- ---- where a section may stand
+
+-- it stands already, and may stand once
+abbrev pub is_repeated : Parts → Known → Bool
+is_repeated parts Format = parts.format
+is_repeated parts Names = is_some parts.names
+is_repeated parts Nodes = is_some parts.nodes
+is_repeated parts Elements = is_some parts.elements
+is_repeated parts (Data on) = false
+
+-- before it have to stand: the format, the nodes, the elements
+abbrev pub needs_format : Known → Bool
+needs_format Format = false
+needs_format k = true
+
+abbrev pub needs_nodes : Known → Bool
+needs_nodes Elements = true
+needs_nodes (Data on) = true
+needs_nodes k = false
+
+abbrev pub needs_elements : Known → Bool
+needs_elements (Data place.Element) = true
+needs_elements k = false
+
+abbrev pub is_data : Known → Bool
+is_data (Data on) = true
+is_data k = false
+
+-- the first cause that stands
+abbrev pub first_cause : List (Bool × MshFault) → Option MshFault
+first_cause causes = option_map (λ (cause : Bool × MshFault). cause.1) (find (λ cause. cause.0) causes)
+
+-- why a section may not begin on this line, the causes in their order
+unfoldable pub misplaced : Parts → ℕ → Known → Option MshFault
+misplaced parts line k = first_cause
+    ((needs_format k && not parts.format, NotMsh line)
+    ∷ (needs_nodes k && is_none parts.nodes, MissingSection line true)
+    ∷ (needs_elements k && is_none parts.elements, MissingSection line false)
+    ∷ (is_repeated parts k, RepeatedSection line)
+    ∷ (is_data k && nat_le 16 (length parts.fields), TooMany line what.Fields)
+    ∷ [])
+
+-- why a file may not end on this line
+unfoldable pub unfinished : Parts → ℕ → Option MshFault
+unfinished parts line = first_cause
+    ((not parts.format, NotMsh line)
+    ∷ (is_none parts.nodes, MissingSection line true)
+    ∷ (is_none parts.elements, MissingSection line false)
+    ∷ [])
+
+-- ---- one section
+
+abbrev pub map_ok : {A B E : Type 0} → (A → B) → Result A E → Result B E
+map_ok f (Ok x) = Ok (f x)
+map_ok f (Err e) = Err e
+
+-- a fault of a data section as one of the file, where this is the one that the body ends too early
+abbrev pub of_data : {A : Type 0} → MshFault → Result A DataFault → Result A MshFault
+of_data ended (Ok x) = Ok x
+of_data ended (Err (data_fault.BadNumber line)) = Err (BadNumber line)
+of_data ended (Err (data_fault.BadCount line)) = Err (BadCount line)
+of_data ended (Err (data_fault.BadName line)) = Err (BadName line)
+of_data ended (Err (data_fault.Components line got)) = Err (Components line got)
+of_data ended (Err (data_fault.UnknownNumber line number)) = Err (UnknownNumber line number)
+of_data ended (Err (data_fault.OutOfRange line)) = Err (OutOfRange line)
+of_data ended (Err (data_fault.Ended line)) = Err ended
+of_data ended (Err data_fault.NoMemory) = Err NoMemory
+
+abbrev pub numbers_on : Parts → Place → List ℕ
+numbers_on parts place.Node = node_numbers parts
+numbers_on parts place.Element = element_numbers parts
+
+-- the parts with this section, whose body is these tokens and ends on this line
+unfoldable pub with_section : ℕ → MshFault → Parts → Known → List Lexeme → Result Parts MshFault
+with_section end ended parts Format body = map_ok (λ size. record parts { format = true }) (whole BadCount format (faults_of ended) body)
+with_section end ended parts Names body = map_ok (λ names. record parts { names = Some names }) (whole BadCount names (faults_of ended) body)
+with_section end ended parts Nodes body = map_ok (λ nodes. record parts { nodes = Some nodes }) (whole BadCount nodes (faults_of ended) body)
+with_section end ended parts Elements body = map_ok (λ elements. record parts { elements = Some elements }) (whole BadCount (elements (node_numbers parts)) (faults_of ended) body)
+with_section end ended parts (Data on) body = map_ok (λ field. record parts { fields = parts.fields ++ field ∷ [] }) (of_data ended (section_of on (numbers_on parts on) end body))
+
+-- ---- the file
+
+-- the line that ends a body before these blocks
+abbrev pub ending : ℕ → List Block → ℕ
+ending end [] = end
+ending end (next ∷ blocks) = next.line
+
+-- the fault of a body that ends too early there: a wrong count where the closing line is the right one
+abbrev pub cut_short : ℕ → List ℕ → List Block → MshFault
+cut_short end name [] = Unclosed end
+cut_short end name (next ∷ blocks) = if closes name next then BadCount next.line else Unclosed next.line
+
+-- What the next header line has to be: one that begins a section; the closing line of the section before it; or, behind an
+-- unknown section, anything up to its closing line.
+pub data Due : Type 0 where
+  Opening : Due
+  Closing : List ℕ → Due
+  Skipping : List ℕ → Due
+
+abbrev pub is_wrong_header : List ℕ → Bool
+is_wrong_header name = same_list name [] || same_list (take 3 name) (codes "End")
+
+-- what is due behind a header line that begins a section, and what was read with that section
+abbrev pub known_section : ℕ → Parts → Block → List Block → Known → Option MshFault → Result (Due × Parts) MshFault
+known_section end parts block blocks k (Some fault) = Err fault
+known_section end parts block blocks k None = map_ok (λ with. (Closing block.name, with)) (with_section (ending end blocks) (cut_short end block.name blocks) parts k block.body)
+
+abbrev pub section_where : ℕ → Parts → Block → List Block → Option Known → Result (Due × Parts) MshFault
+section_where end parts block blocks (Some k) = known_section end parts block blocks k (misplaced parts block.line k)
+section_where end parts block blocks None = if is_wrong_header block.name then Err (WrongHeader block.line) else Ok (Skipping block.name, parts)
+
+-- one header line with its body, and the blocks behind it
+unfoldable pub step : ℕ → Due → Parts → Block → List Block → Result (Due × Parts) MshFault
+step end Opening parts block blocks = section_where end parts block blocks (known block.name)
+step end (Closing name) parts block blocks = if closes name block then Ok (Opening, parts) else Err (Unclosed block.line)
+step end (Skipping name) parts block blocks = Ok (if closes name block then Opening else Skipping name, parts)
+
+abbrev pub content_where : Parts → Option MshFault → Result Content MshFault
+content_where parts (Some fault) = Err fault
+content_where parts None = Ok (record { nodes = unwrap_or parts.nodes []; elements = unwrap_or parts.elements []; names = unwrap_or parts.names []; fields = parts.fields })
+
+abbrev pub and_then : {A B E : Type 0} → Result A E → (A → Result B E) → Result B E
+and_then (Ok x) k = k x
+and_then (Err e) k = Err e
+
+-- what blocks say behind what was read, where the file ends on this line
+unfoldable pub said : ℕ → Due → Parts → List Block → Result Content MshFault
+said end Opening parts [] = content_where parts (unfinished parts end)
+said end (Closing name) parts [] = Err (Unclosed end)
+said end (Skipping name) parts [] = Err (Unclosed end)
+said end due parts (block ∷ blocks) = and_then (step end due parts block blocks) (λ next. said end next.0 next.1 blocks)
+
+-- the content of a mesh file, or its first fault
+unfoldable pub content : List ℕ → Result Content MshFault
+content bytes = said (line_number bytes (length bytes)) Opening nothing (blocks_of bytes (items bytes))

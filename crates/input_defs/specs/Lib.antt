@@ -1,0 +1,4 @@
+pub mod Bodies
+pub mod Sections
+pub mod DataSections
+pub mod Files
