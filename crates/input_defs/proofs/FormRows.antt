@@ -97,7 +97,7 @@ unfolding line_number lines_from lines_of is_indent name_of tokens_on items_on i
 refused_data = refl
 
 -- the seventeenth data section
-refused_seventeenth : fault (one_triangle ++ flat_map (λ k. codes "$NodeData\n0 0 3 0 1 0\n$EndNodeData\n") (replicate 17 0)) ≡ Some (TooMany 62 what.Fields)
+refused_seventeenth : fault (one_triangle ++ flat_map {X = ℕ} (λ k. codes "$NodeData\n0 0 3 0 1 0\n$EndNodeData\n") (replicate 17 0)) ≡ Some (TooMany 62 what.Fields)
 unfolding line_number lines_from lines_of is_indent name_of tokens_on items_on items_of ahead quoted_on uint_of int_of decimal_of scaled fixed_value fixed_of lexeme_of format name names node nodes_behind nodes element elements row section section_of blocks_of misplaced unfinished with_section step said content
 refused_seventeenth = refl
 

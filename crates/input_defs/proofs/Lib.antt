@@ -1,2 +1,3 @@
 pub mod MshRows
 pub mod FormRows
+pub mod MeshRows

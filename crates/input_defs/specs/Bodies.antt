@@ -90,10 +90,6 @@ quoted faults (token ∷ rest) = text_where faults token.line rest token.quoted
 
 -- ---- a whole body
 
--- this where the test holds, else the fault
-abbrev pub ok_where : {E A : Type 0} → Bool → A → E → Result A E
-ok_where test x e = if test then Ok x else Err e
-
 abbrev pub nothing_left : {E A : Type 0} → (ℕ → E) → Result (A × List Lexeme) E → Result A E
 nothing_left extra (Err e) = Err e
 nothing_left extra (Ok (x, [])) = Ok x

@@ -7,7 +7,8 @@ use Rattle.scan_defs.specs.declared.NumberFault.TheVariants as numbers
 use Rattle.scan_defs.specs.Numbers.{Decimal, uint_of, int_of, decimal_of}
 use Rattle.input_defs.specs.declared.DataFault.{DataFault}
 use Rattle.input_defs.specs.declared.DataFault.TheVariants.{BadNumber, BadCount, BadName, Components, UnknownNumber, OutOfRange, Ended}
-use Rattle.input_defs.specs.Bodies.{Lexeme, Faults, Reader, give, ◌>>=◌, many, number, tested, uint, int, fixed, quoted, ok_where, whole}
+use Rattle.input_defs.specs.Causes.{ok_where}
+use Rattle.input_defs.specs.Bodies.{Lexeme, Faults, Reader, give, ◌>>=◌, many, number, tested, uint, int, fixed, quoted, whole}
 use Rattle.input_defs.specs.Sections.{has}
 
 abbrev pub number_fault : NumberFault → ℕ → DataFault

@@ -12,6 +12,7 @@ use Rattle.input_defs.specs.declared.DataFault.{DataFault}
 use Rattle.input_defs.specs.declared.DataFault.TheVariants as data_fault
 use Rattle.input_defs.specs.declared.MshFault.{MshFault}
 use Rattle.input_defs.specs.declared.MshFault.TheVariants.{NotMsh, Header as WrongHeader, BadNumber, BadCount, BadName, Unclosed, RepeatedSection, MissingSection, Components, UnknownNumber, OutOfRange, TooMany, NoMemory}
+use Rattle.input_defs.specs.Causes.{◌>>=◌, map_ok, first_cause, unless}
 use Rattle.input_defs.specs.Bodies.{Lexeme, lexeme_of, whole}
 use Rattle.input_defs.specs.Sections.{faults_of, format, names, nodes, elements}
 use Rattle.input_defs.specs.DataSections.{section_of}
@@ -95,10 +96,6 @@ abbrev pub is_data : Known → Bool
 is_data (Data on) = true
 is_data k = false
 
--- the first cause that stands
-abbrev pub first_cause : List (Bool × MshFault) → Option MshFault
-first_cause causes = option_map (λ (cause : Bool × MshFault). cause.1) (find (λ cause. cause.0) causes)
-
 -- why a section may not begin on this line, the causes in their order
 unfoldable pub misplaced : Parts → ℕ → Known → Option MshFault
 misplaced parts line k = first_cause
@@ -118,10 +115,6 @@ unfinished parts line = first_cause
     ∷ [])
 
 -- ---- one section
-
-abbrev pub map_ok : {A B E : Type 0} → (A → B) → Result A E → Result B E
-map_ok f (Ok x) = Ok (f x)
-map_ok f (Err e) = Err e
 
 -- a fault of a data section as one of the file, where this is the one that the body ends too early
 abbrev pub of_data : {A : Type 0} → MshFault → Result A DataFault → Result A MshFault
@@ -170,12 +163,14 @@ abbrev pub is_wrong_header : List ℕ → Bool
 is_wrong_header name = same_list name [] || same_list (take 3 name) (codes "End")
 
 -- what is due behind a header line that begins a section, and what was read with that section
-abbrev pub known_section : ℕ → Parts → Block → List Block → Known → Option MshFault → Result (Due × Parts) MshFault
-known_section end parts block blocks k (Some fault) = Err fault
-known_section end parts block blocks k None = map_ok (λ with. (Closing block.name, with)) (with_section (ending end blocks) (cut_short end block.name blocks) parts k block.body)
+abbrev pub known_section : ℕ → Parts → Block → List Block → Known → Result (Due × Parts) MshFault
+known_section end parts block blocks k = do
+  begun ← unless (misplaced parts block.line k) parts
+  with ← with_section (ending end blocks) (cut_short end block.name blocks) begun k block.body
+  Ok (Closing block.name, with)
 
 abbrev pub section_where : ℕ → Parts → Block → List Block → Option Known → Result (Due × Parts) MshFault
-section_where end parts block blocks (Some k) = known_section end parts block blocks k (misplaced parts block.line k)
+section_where end parts block blocks (Some k) = known_section end parts block blocks k
 section_where end parts block blocks None = if is_wrong_header block.name then Err (WrongHeader block.line) else Ok (Skipping block.name, parts)
 
 -- one header line with its body, and the blocks behind it
@@ -184,20 +179,15 @@ step end Opening parts block blocks = section_where end parts block blocks (know
 step end (Closing name) parts block blocks = if closes name block then Ok (Opening, parts) else Err (Unclosed block.line)
 step end (Skipping name) parts block blocks = Ok (if closes name block then Opening else Skipping name, parts)
 
-abbrev pub content_where : Parts → Option MshFault → Result Content MshFault
-content_where parts (Some fault) = Err fault
-content_where parts None = Ok (record { nodes = unwrap_or parts.nodes []; elements = unwrap_or parts.elements []; names = unwrap_or parts.names []; fields = parts.fields })
-
-abbrev pub and_then : {A B E : Type 0} → Result A E → (A → Result B E) → Result B E
-and_then (Ok x) k = k x
-and_then (Err e) k = Err e
+abbrev pub content_of : Parts → Content
+content_of parts = record { nodes = unwrap_or parts.nodes []; elements = unwrap_or parts.elements []; names = unwrap_or parts.names []; fields = parts.fields }
 
 -- what blocks say behind what was read, where the file ends on this line
 unfoldable pub said : ℕ → Due → Parts → List Block → Result Content MshFault
-said end Opening parts [] = content_where parts (unfinished parts end)
+said end Opening parts [] = unless (unfinished parts end) (content_of parts)
 said end (Closing name) parts [] = Err (Unclosed end)
 said end (Skipping name) parts [] = Err (Unclosed end)
-said end due parts (block ∷ blocks) = and_then (step end due parts block blocks) (λ next. said end next.0 next.1 blocks)
+said end due parts (block ∷ blocks) = step end due parts block blocks >>= (λ next. said end next.0 next.1 blocks)
 
 -- the content of a mesh file, or its first fault
 unfoldable pub content : List ℕ → Result Content MshFault

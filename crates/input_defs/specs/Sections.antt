@@ -13,7 +13,8 @@ use Rattle.input_defs.specs.declared.What.{What}
 use Rattle.input_defs.specs.declared.What.TheVariants as what
 use Rattle.input_defs.specs.declared.MshFault.{MshFault}
 use Rattle.input_defs.specs.declared.MshFault.TheVariants.{Version, Binary, BadNumber, BadName, RepeatedNodeNumber, ElementType, UnknownNode, RepeatedNode, OutOfRange, TooMany}
-use Rattle.input_defs.specs.Bodies.{Lexeme, Faults, Reader, give, ◌>>=◌, many, tested, uint, int, fixed, quoted, ok_where}
+use Rattle.input_defs.specs.Causes.{ok_where}
+use Rattle.input_defs.specs.Bodies.{Lexeme, Faults, Reader, give, ◌>>=◌, many, tested, uint, int, fixed, quoted}
 
 abbrev pub number_fault : NumberFault → ℕ → MshFault
 number_fault numbers.NotNumber line = BadNumber line
