@@ -5,3 +5,6 @@ pub mod DataSections
 pub mod Files
 pub mod Meshes
 pub mod Plans
+pub mod Words
+pub mod Generated
+pub mod Refused

@@ -1,0 +1,177 @@
+-- Refusals: the first cause that stands, of words, plan bytes and mesh bytes, with its status and its line.
+use Rattle.std.specs.Prelude.{ℕ, ◌-◌, ◌/◌, ◌%◌, Bool, true, false, nat_lt, if◌then◌else◌, List, [], ◌∷◌, ◌++◌, length, codes, decimal, Option, Some, None, Result, Ok, Err}
+use Rattle.mesh_defs.specs.Mesh.{Mesh}
+use Rattle.mesh_defs.specs.Diagram.{twist_key}
+use Rattle.text_defs.specs.Text.{line}
+use Rattle.text_defs.specs.Content.{Content}
+use Rattle.text_defs.specs.Refusals.{most_bytes, words_refused, read_refused, too_long_refused}
+use Rattle.input_defs.specs.declared.What.{What}
+use Rattle.input_defs.specs.declared.What.TheVariants as what
+use Rattle.input_defs.specs.declared.MshFault.{MshFault}
+use Rattle.input_defs.specs.declared.MshFault.TheVariants as msh
+use Rattle.input_defs.specs.declared.MeshFault.{MeshFault}
+use Rattle.input_defs.specs.declared.MeshFault.TheVariants as mesh
+use Rattle.input_defs.specs.declared.PlanFault.{PlanFault}
+use Rattle.input_defs.specs.declared.PlanFault.TheVariants as plan
+use Rattle.input_defs.specs.declared.Status.{Status}
+use Rattle.input_defs.specs.declared.Status.TheVariants as status
+use Rattle.input_defs.specs.Causes.{◌>>=◌, map_ok}
+use Rattle.input_defs.specs.Files.{content}
+use Rattle.input_defs.specs.Meshes.{accepted}
+use Rattle.input_defs.specs.Plans.{Plan, plan_of, plain_plan, misfit}
+use Rattle.input_defs.specs.Words.{Source, File, Made, Request, request}
+use Rattle.input_defs.specs.Generated.{made}
+
+-- ---- lines; want of memory has none
+
+-- a text and a number, or two
+abbrev pub one_number : List ℕ → ℕ → List ℕ
+one_number text n = text ++ codes " " ++ decimal n
+
+abbrev pub on_line : ℕ → List ℕ → List ℕ
+on_line l text = one_number (codes "line") l ++ codes " " ++ text
+
+abbrev pub what_text : What → List ℕ
+what_text what.Nodes = codes "too many nodes"
+what_text what.Elements = codes "too many elements"
+what_text what.Names = codes "too many names"
+what_text what.Fields = codes "too many fields"
+
+-- what stands behind `refused: mesh`
+unfoldable pub msh_text : MshFault → List ℕ
+msh_text (msh.NotMsh l) = on_line l (codes "not msh")
+msh_text (msh.Version l) = on_line l (codes "version")
+msh_text (msh.Binary l) = on_line l (codes "binary")
+msh_text (msh.Header l) = on_line l (codes "header")
+msh_text (msh.BadNumber l) = on_line l (codes "bad number")
+msh_text (msh.BadCount l) = on_line l (codes "bad count")
+msh_text (msh.BadName l) = on_line l (codes "bad name")
+msh_text (msh.Unclosed l) = on_line l (codes "unclosed")
+msh_text (msh.RepeatedSection l) = on_line l (codes "repeated section")
+msh_text (msh.MissingSection l nodes) = on_line l (codes "missing section " ++ (if nodes then codes "Nodes" else codes "Elements"))
+msh_text (msh.RepeatedNodeNumber l n) = on_line l (one_number (codes "repeated node number") n)
+msh_text (msh.ElementType l n) = on_line l (one_number (codes "element type") n)
+msh_text (msh.UnknownNode l n) = on_line l (one_number (codes "unknown node") n)
+msh_text (msh.RepeatedNode l n) = on_line l (one_number (codes "repeated node") n)
+msh_text (msh.Components l n) = on_line l (one_number (codes "components") n)
+msh_text (msh.UnknownNumber l n) = on_line l (one_number (codes "unknown number") n)
+msh_text (msh.OutOfRange l) = on_line l (codes "out of range")
+msh_text (msh.TooMany l what) = on_line l (what_text what)
+msh_text msh.NoMemory = []
+
+unfoldable pub mesh_text : MeshFault → List ℕ
+mesh_text (mesh.NoCells greatest) = one_number (codes "no cells") greatest
+mesh_text mesh.TooManyCells = codes "too many cells"
+mesh_text (mesh.CellTwist element earlier) = one_number (one_number (codes "cell twist") element) earlier
+mesh_text mesh.NoMemory = []
+
+-- what stands behind `refused: plan`
+unfoldable pub plan_text : PlanFault → List ℕ
+plan_text (plan.Word l) = on_line l (codes "word")
+plan_text (plan.Ranks l n) = on_line l (one_number (codes "ranks") n)
+plan_text (plan.NoPart l) = on_line l (codes "no part")
+plan_text (plan.Steps l) = on_line l (codes "steps")
+plan_text (plan.Overlap l n) = on_line l (one_number (codes "overlap") n)
+plan_text (plan.Dofs l) = on_line l (codes "dofs")
+plan_text (plan.PartLength l want got) = on_line l (one_number (one_number (codes "part length") got ++ codes " want") want)
+plan_text (plan.PartRank l n) = on_line l (one_number (codes "part rank") n)
+plan_text (plan.Weight l cells ranks) = on_line l (one_number (one_number (codes "weight") cells) ranks)
+plan_text plan.NoMemory = []
+
+abbrev pub msh_refused : MshFault → List ℕ
+msh_refused fault = line (codes "refused: mesh " ++ msh_text fault)
+
+abbrev pub mesh_refused : MeshFault → List ℕ
+mesh_refused fault = line (codes "refused: mesh " ++ mesh_text fault)
+
+abbrev pub plan_refused : PlanFault → List ℕ
+plan_refused fault = line (codes "refused: plan " ++ plan_text fault)
+
+-- the key 64c + 1 + f of face f of cell c
+unfoldable pub twist_refused : ℕ → List ℕ
+twist_refused key = line (one_number (one_number (codes "refused: twist cell") (key / 64) ++ codes " face") (key % 64 - 1))
+
+-- ---- the first that stands
+
+pub record Refusal : Type 0 where
+  pub status : Status
+  pub text : List ℕ
+
+abbrev pub refuse : {A : Type 0} → Status → List ℕ → Result A Refusal
+refuse status text = Err (record { status = status; text = text })
+
+-- what is to be done, where nothing is refused
+pub record Task : Type 0 where
+  pub mesh : Mesh
+  pub plan : Plan
+  pub summary : Bool
+
+abbrev pub asked_for : Option Request → Result Request Refusal
+asked_for None = refuse status.Words words_refused
+asked_for (Some r) = Ok r
+
+-- the bytes of a file of this name, where it is there
+abbrev pub short_file : List ℕ → Option (List ℕ) → Result (List ℕ) Refusal
+short_file name None = refuse status.ReadFault (read_refused name)
+short_file name (Some bytes) = if nat_lt most_bytes (length bytes) then refuse status.TooLong (too_long_refused name) else Ok bytes
+
+-- the bytes of the plan file, if one is asked for, and of the mesh file, if there is one
+abbrev pub plan_file : (List ℕ → Option (List ℕ)) → Option (List ℕ) → Result (Option (List ℕ)) Refusal
+plan_file file None = Ok None
+plan_file file (Some name) = map_ok Some (short_file name (file name))
+
+pub data Supply : Type 0 where
+  Bytes : List ℕ → Supply
+  Ready : Mesh → Supply
+
+abbrev pub mesh_file : (List ℕ → Option (List ℕ)) → Source → Result Supply Refusal
+mesh_file file (File name) = map_ok Bytes (short_file name (file name))
+mesh_file file (Made kind n) = Ok (Ready (made kind n))
+
+abbrev pub where_plan : Result Plan PlanFault → Result Plan Refusal
+where_plan (Ok p) = Ok p
+where_plan (Err fault) = refuse status.Plan (plan_refused fault)
+
+abbrev pub plan_asked : Option (List ℕ) → Result Plan Refusal
+plan_asked None = Ok plain_plan
+plan_asked (Some bytes) = where_plan (plan_of bytes)
+
+abbrev pub where_content : Result Content MshFault → Result Content Refusal
+where_content (Ok c) = Ok c
+where_content (Err fault) = refuse status.Mesh (msh_refused fault)
+
+abbrev pub where_mesh : Result Mesh MeshFault → Result Mesh Refusal
+where_mesh (Ok m) = Ok m
+where_mesh (Err fault) = refuse status.Mesh (mesh_refused fault)
+
+abbrev pub mesh_asked : Supply → Result Mesh Refusal
+mesh_asked (Bytes bytes) = where_content (content bytes) >>= (λ c. where_mesh (accepted c))
+mesh_asked (Ready m) = Ok m
+
+abbrev pub fitting : Option PlanFault → Result (Unit {0}) Refusal
+fitting None = Ok tt
+fitting (Some fault) = refuse status.Plan (plan_refused fault)
+
+abbrev pub untwisted : Option ℕ → Result (Unit {0}) Refusal
+untwisted None = Ok tt
+untwisted (Some key) = refuse status.Mesh (twist_refused key)
+
+-- What words and files ask for, or the first refusal that stands; `file` has the bytes under a name.
+unfoldable pub task : List (List ℕ) → (List ℕ → Option (List ℕ)) → Result Task Refusal
+task words file = do
+  asked ← asked_for (request words)
+  plan_bytes ← plan_file file asked.plan
+  supply ← mesh_file file asked.source
+  plan ← plan_asked plan_bytes
+  mesh ← mesh_asked supply
+  fits ← fitting (misfit plan (length mesh.cells))
+  even ← untwisted (twist_key mesh)
+  Ok (record { mesh = mesh; plan = plan; summary = asked.summary })
+
+abbrev pub refusal_where : Result Task Refusal → Option Refusal
+refusal_where (Ok t) = None
+refusal_where (Err r) = Some r
+
+-- the refusal, or none
+abbrev pub refusal : List (List ℕ) → (List ℕ → Option (List ℕ)) → Option Refusal
+refusal words file = refusal_where (task words file)
