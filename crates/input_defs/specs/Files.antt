@@ -62,57 +62,27 @@ pub record Parts : Type 0 where
 abbrev pub nothing : Parts
 nothing = record { format = false; names = None; nodes = None; elements = None; fields = [] }
 
-abbrev pub node_numbers : Parts → List ℕ
-node_numbers parts = map (λ (node : Node). node.number) (unwrap_or parts.nodes [])
-
-abbrev pub element_numbers : Parts → List ℕ
-element_numbers parts = map (λ (element : Element). element.number) (unwrap_or parts.elements [])
-
 -- ---- where a section may stand
 
--- it stands already, and may stand once
-abbrev pub is_repeated : Parts → Known → Bool
-is_repeated parts Format = parts.format
-is_repeated parts Names = is_some parts.names
-is_repeated parts Nodes = is_some parts.nodes
-is_repeated parts Elements = is_some parts.elements
-is_repeated parts (Data on) = false
+abbrev pub is_on_elements : Place → Bool
+is_on_elements place.Node = false
+is_on_elements place.Element = true
 
--- before it have to stand: the format, the nodes, the elements
-abbrev pub needs_format : Known → Bool
-needs_format Format = false
-needs_format k = true
+-- why a section may not begin on a line, the causes in their order
+abbrev pub causes : Parts → ℕ → Known → List (Bool × MshFault)
+causes parts line Format = (parts.format, RepeatedSection line) ∷ []
+causes parts line Names = (not parts.format, NotMsh line) ∷ (is_some parts.names, RepeatedSection line) ∷ []
+causes parts line Nodes = (not parts.format, NotMsh line) ∷ (is_some parts.nodes, RepeatedSection line) ∷ []
+causes parts line Elements = (not parts.format, NotMsh line) ∷ (is_none parts.nodes, MissingSection line true) ∷ (is_some parts.elements, RepeatedSection line) ∷ []
+causes parts line (Data on) = (not parts.format, NotMsh line) ∷ (is_none parts.nodes, MissingSection line true)
+    ∷ (is_on_elements on && is_none parts.elements, MissingSection line false) ∷ (nat_le 16 (length parts.fields), TooMany line what.Fields) ∷ []
 
-abbrev pub needs_nodes : Known → Bool
-needs_nodes Elements = true
-needs_nodes (Data on) = true
-needs_nodes k = false
-
-abbrev pub needs_elements : Known → Bool
-needs_elements (Data place.Element) = true
-needs_elements k = false
-
-abbrev pub is_data : Known → Bool
-is_data (Data on) = true
-is_data k = false
-
--- why a section may not begin on this line, the causes in their order
 unfoldable pub misplaced : Parts → ℕ → Known → Option MshFault
-misplaced parts line k = first_cause
-    ((needs_format k && not parts.format, NotMsh line)
-    ∷ (needs_nodes k && is_none parts.nodes, MissingSection line true)
-    ∷ (needs_elements k && is_none parts.elements, MissingSection line false)
-    ∷ (is_repeated parts k, RepeatedSection line)
-    ∷ (is_data k && nat_le 16 (length parts.fields), TooMany line what.Fields)
-    ∷ [])
+misplaced parts line k = first_cause (causes parts line k)
 
 -- why a file may not end on this line
 unfoldable pub unfinished : Parts → ℕ → Option MshFault
-unfinished parts line = first_cause
-    ((not parts.format, NotMsh line)
-    ∷ (is_none parts.nodes, MissingSection line true)
-    ∷ (is_none parts.elements, MissingSection line false)
-    ∷ [])
+unfinished parts line = first_cause ((not parts.format, NotMsh line) ∷ (is_none parts.nodes, MissingSection line true) ∷ (is_none parts.elements, MissingSection line false) ∷ [])
 
 -- ---- one section
 
@@ -128,16 +98,17 @@ of_data ended (Err (data_fault.OutOfRange line)) = Err (OutOfRange line)
 of_data ended (Err (data_fault.Ended line)) = Err ended
 of_data ended (Err data_fault.NoMemory) = Err NoMemory
 
+-- the numbers of the nodes, and of the elements
 abbrev pub numbers_on : Parts → Place → List ℕ
-numbers_on parts place.Node = node_numbers parts
-numbers_on parts place.Element = element_numbers parts
+numbers_on parts place.Node = map (λ (node : Node). node.number) (unwrap_or parts.nodes [])
+numbers_on parts place.Element = map (λ (element : Element). element.number) (unwrap_or parts.elements [])
 
 -- the parts with this section, whose body is these tokens and ends on this line
 unfoldable pub with_section : ℕ → MshFault → Parts → Known → List Lexeme → Result Parts MshFault
 with_section end ended parts Format body = map_ok (λ size. record parts { format = true }) (whole BadCount format (faults_of ended) body)
 with_section end ended parts Names body = map_ok (λ names. record parts { names = Some names }) (whole BadCount names (faults_of ended) body)
 with_section end ended parts Nodes body = map_ok (λ nodes. record parts { nodes = Some nodes }) (whole BadCount nodes (faults_of ended) body)
-with_section end ended parts Elements body = map_ok (λ elements. record parts { elements = Some elements }) (whole BadCount (elements (node_numbers parts)) (faults_of ended) body)
+with_section end ended parts Elements body = map_ok (λ elements. record parts { elements = Some elements }) (whole BadCount (elements (numbers_on parts place.Node)) (faults_of ended) body)
 with_section end ended parts (Data on) body = map_ok (λ field. record parts { fields = parts.fields ++ field ∷ [] }) (of_data ended (section_of on (numbers_on parts on) end body))
 
 -- ---- the file
@@ -163,19 +134,16 @@ abbrev pub is_wrong_header : List ℕ → Bool
 is_wrong_header name = same_list name [] || same_list (take 3 name) (codes "End")
 
 -- what is due behind a header line that begins a section, and what was read with that section
-abbrev pub known_section : ℕ → Parts → Block → List Block → Known → Result (Due × Parts) MshFault
-known_section end parts block blocks k = do
-  begun ← unless (misplaced parts block.line k) parts
-  with ← with_section (ending end blocks) (cut_short end block.name blocks) begun k block.body
+abbrev pub begun : ℕ → Parts → Block → List Block → Option Known → Result (Due × Parts) MshFault
+begun end parts block blocks (Some k) = do
+  before ← unless (misplaced parts block.line k) parts
+  with ← with_section (ending end blocks) (cut_short end block.name blocks) before k block.body
   Ok (Closing block.name, with)
-
-abbrev pub section_where : ℕ → Parts → Block → List Block → Option Known → Result (Due × Parts) MshFault
-section_where end parts block blocks (Some k) = known_section end parts block blocks k
-section_where end parts block blocks None = if is_wrong_header block.name then Err (WrongHeader block.line) else Ok (Skipping block.name, parts)
+begun end parts block blocks None = if is_wrong_header block.name then Err (WrongHeader block.line) else Ok (Skipping block.name, parts)
 
 -- one header line with its body, and the blocks behind it
 unfoldable pub step : ℕ → Due → Parts → Block → List Block → Result (Due × Parts) MshFault
-step end Opening parts block blocks = section_where end parts block blocks (known block.name)
+step end Opening parts block blocks = begun end parts block blocks (known block.name)
 step end (Closing name) parts block blocks = if closes name block then Ok (Opening, parts) else Err (Unclosed block.line)
 step end (Skipping name) parts block blocks = Ok (if closes name block then Opening else Skipping name, parts)
 

@@ -1,5 +1,5 @@
 -- Plans: how the cells of a mesh are spread over ranks, step by step. A plan is read line by line.
-use Rattle.std.specs.Prelude.{ℕ, zero, suc, ◌+◌, ◌*◌, ◌/◌, ◌%◌, Bool, true, false, not, ◌&&◌, ◌||◌, ◌==◌, nat_lt, nat_le, if◌then◌else◌, List, [], ◌∷◌, ◌++◌, length, map, get_or, slice_get, find, flat_map, codes, Option, Some, None, option_map, option_and_then, is_none, Result, Ok, Err}
+use Rattle.std.specs.Prelude.{ℕ, zero, suc, ◌+◌, ◌*◌, ◌/◌, ◌%◌, Bool, true, false, not, ◌&&◌, ◌||◌, ◌==◌, nat_lt, nat_le, if◌then◌else◌, List, [], ◌∷◌, ◌++◌, length, map, get_or, slice_get, find, flat_map, fold, codes, Option, Some, None, option_map, option_and_then, is_none, Result, Ok, Err}
 use Rattle.std.specs.List.{list_any, list_all}
 use Rattle.mesh_defs.specs.Lists.{same_list}
 use Rattle.text_defs.specs.Rows.{lines_of, tokens_of}
@@ -54,9 +54,6 @@ abbrev pub plan_numbers : List (List ℕ) → Option (List ℕ)
 plan_numbers [] = Some []
 plan_numbers (token ∷ tokens) = cons_some (plan_number token) (plan_numbers tokens)
 
-abbrev pub is_word : List ℕ → List ℕ → Bool
-is_word = same_list
-
 abbrev pub showing : Bool → Bool → Bool → Bool → Bool → Show
 showing points local closure trace windows = record { points = points; local = local; closure = closure; trace = trace; windows = windows; summary = false }
 
@@ -65,7 +62,7 @@ shows_of = (codes "points", showing true false false false false) ∷ (codes "lo
     ∷ (codes "trace", showing false false false true false) ∷ (codes "windows", showing false false false false true) ∷ []
 
 abbrev pub show_of : List ℕ → Option Form
-show_of token = option_map (λ (row : List ℕ × Show). IsShow row.1) (find (λ row. is_word row.0 token) shows_of)
+show_of token = option_map (λ (row : List ℕ × Show). IsShow row.1) (find (λ row. same_list row.0 token) shows_of)
 
 abbrev pub listed : List (List ℕ) → Option Form
 listed tokens = option_map (λ ranks. IsMove (Part (Listed ranks))) (plan_numbers tokens)
@@ -90,25 +87,24 @@ alone f _ = None
 -- the form of a line that begins with this word
 unfoldable pub form_of : List ℕ → List (List ℕ) → Option Form
 form_of word tokens =
-    if is_word word (codes "ranks") then alone (λ token. option_map IsRanks (plan_number token)) tokens
-    else if is_word word (codes "part") then part_of tokens
-    else if is_word word (codes "overlap") then alone (λ token. option_map (λ k. IsMove (Layers k)) (plan_number token)) tokens
-    else if is_word word (codes "dofs") then dofs_of tokens
-    else if is_word word (codes "show") then alone show_of tokens
+    if same_list word (codes "ranks") then alone (λ token. option_map IsRanks (plan_number token)) tokens
+    else if same_list word (codes "part") then part_of tokens
+    else if same_list word (codes "overlap") then alone (λ token. option_map (λ k. IsMove (Layers k)) (plan_number token)) tokens
+    else if same_list word (codes "dofs") then dofs_of tokens
+    else if same_list word (codes "show") then alone show_of tokens
     else None
 
 -- ---- what was read up to a line
 
--- without ranks as long as no line has told them; `layers` are those since the last part or `overlap 0`
+-- without ranks as long as no line has told them
 pub record Before : Type 0 where
   pub ranks : Option ℕ
   pub moves : List (ℕ × Move)
-  pub layers : ℕ
   pub dofs : List DofsLine
   pub shows : Show
 
 abbrev pub at_first : Before
-at_first = record { ranks = None; moves = []; layers = 0; dofs = []; shows = showing false false false false false }
+at_first = record { ranks = None; moves = []; dofs = []; shows = showing false false false false false }
 
 abbrev pub is_letter : ℕ → Bool
 is_letter b = (nat_le 65 b && nat_le b 90) || (nat_le 97 b && nat_le b 122) || is_digit b || (b == 95)
@@ -121,17 +117,15 @@ abbrev pub is_named : List DofsLine → List ℕ → Bool
 is_named earlier name = list_any (λ (d : DofsLine). same_list d.name name) earlier
 
 abbrev pub both : Show → Show → Show
-both a b = record {
-  points = a.points || b.points;
-  local = a.local || b.local;
-  closure = a.closure || b.closure;
-  trace = a.trace || b.trace;
-  windows = a.windows || b.windows;
-  summary = a.summary || b.summary;
-}
+both a b = showing (a.points || b.points) (a.local || b.local) (a.closure || b.closure) (a.trace || b.trace) (a.windows || b.windows)
 
-abbrev pub layers_with : ℕ → ℕ → ℕ
-layers_with layers k = if k == 0 then 0 else layers + k
+-- the layers since the last part or `overlap 0`, after one more move
+abbrev pub layers_with : ℕ → Move → ℕ
+layers_with layers (Part spread) = 0
+layers_with layers (Layers k) = if k == 0 then 0 else layers + k
+
+abbrev pub layers_of : List (ℕ × Move) → ℕ
+layers_of moves = fold (λ layers (m : ℕ × Move). layers_with layers m.1) 0 moves
 
 abbrev pub is_part : Move → Bool
 is_part (Part spread) = true
@@ -143,16 +137,17 @@ has_part b = list_any (λ (m : ℕ × Move). is_part m.1) b.moves
 
 -- ---- one line
 
-abbrev pub with_move : Before → ℕ → Move → ℕ → Before
-with_move b line move layers = record b { moves = b.moves ++ (line, move) ∷ []; layers = layers }
+abbrev pub with_move : Before → ℕ → Move → Before
+with_move b line move = record b { moves = b.moves ++ (line, move) ∷ [] }
 
 unfoldable pub with_form : Before → ℕ → Option Form → Result Before PlanFault
 with_form b line None = Err (Word line)
 with_form b line (Some (IsRanks n)) = unless (first_cause ((not (is_none b.ranks), Word line) ∷ ((n == 0) || nat_lt 64 n, Ranks line n) ∷ [])) (record b { ranks = Some n })
-with_form b line (Some (IsMove (Part spread))) = unless (first_cause ((is_none b.ranks, Word line) ∷ (nat_le 32 (length b.moves), Steps line) ∷ [])) (with_move b line (Part spread) 0)
+with_form b line (Some (IsMove (Part spread))) = unless (first_cause ((is_none b.ranks, Word line) ∷ (nat_le 32 (length b.moves), Steps line) ∷ [])) (with_move b line (Part spread))
 with_form b line (Some (IsMove (Layers k))) = unless
-    (first_cause ((not (has_part b), NoPart line) ∷ (nat_le 32 (length b.moves), Steps line) ∷ (nat_lt 4 (layers_with b.layers k), Overlap line (layers_with b.layers k)) ∷ []))
-    (with_move b line (Layers k) (layers_with b.layers k))
+    (first_cause ((not (has_part b), NoPart line) ∷ (nat_le 32 (length b.moves), Steps line)
+    ∷ (nat_lt 4 (layers_with (layers_of b.moves) (Layers k)), Overlap line (layers_with (layers_of b.moves) (Layers k))) ∷ []))
+    (with_move b line (Layers k))
 with_form b line (Some (IsDofs d)) = unless (first_cause ((not (is_name d.name) || is_named b.dofs d.name || list_any (λ n. nat_lt 16 n) d.dofs || nat_le 8 (length b.dofs), Dofs line) ∷ [])) (record b { dofs = b.dofs ++ d ∷ [] })
 with_form b line (Some (IsShow s)) = Ok (record b { shows = both b.shows s })
 

@@ -1,5 +1,6 @@
 -- Refusals: the first cause that stands, of words, plan bytes and mesh bytes, with its status and its line.
-use Rattle.std.specs.Prelude.{ℕ, ◌-◌, ◌/◌, ◌%◌, Bool, true, false, nat_lt, if◌then◌else◌, List, [], ◌∷◌, ◌++◌, length, codes, decimal, Option, Some, None, Result, Ok, Err}
+use Rattle.std.specs.Prelude.{ℕ, ◌-◌, ◌/◌, ◌%◌, Bool, true, false, nat_lt, if◌then◌else◌, List, [], ◌∷◌, ◌++◌, length, codes, decimal, Option, Some, None, ok_or, Result, Ok, Err}
+use Rattle.std.specs.Result.{result_err}
 use Rattle.mesh_defs.specs.Mesh.{Mesh}
 use Rattle.mesh_defs.specs.Diagram.{twist_key}
 use Rattle.text_defs.specs.Text.{line}
@@ -15,11 +16,11 @@ use Rattle.input_defs.specs.declared.PlanFault.{PlanFault}
 use Rattle.input_defs.specs.declared.PlanFault.TheVariants as plan
 use Rattle.input_defs.specs.declared.Status.{Status}
 use Rattle.input_defs.specs.declared.Status.TheVariants as status
-use Rattle.input_defs.specs.Causes.{◌>>=◌, map_ok}
+use Rattle.input_defs.specs.Causes.{◌>>=◌, map_ok, unless}
 use Rattle.input_defs.specs.Files.{content}
 use Rattle.input_defs.specs.Meshes.{accepted}
 use Rattle.input_defs.specs.Plans.{Plan, plan_of, plain_plan, misfit}
-use Rattle.input_defs.specs.Words.{Source, File, Made, Request, request}
+use Rattle.input_defs.specs.Words.{Source, File, Made, request}
 use Rattle.input_defs.specs.Generated.{made}
 
 -- ---- lines; want of memory has none
@@ -106,72 +107,48 @@ pub record Task : Type 0 where
   pub plan : Plan
   pub summary : Bool
 
-abbrev pub asked_for : Option Request → Result Request Refusal
-asked_for None = refuse status.Words words_refused
-asked_for (Some r) = Ok r
+-- what there is, else the refusal of its fault
+abbrev pub or_refuse : {A E : Type 0} → Status → (E → List ℕ) → Result A E → Result A Refusal
+or_refuse status text (Ok x) = Ok x
+or_refuse status text (Err e) = refuse status (text e)
 
--- the bytes of a file of this name, where it is there
+-- the bytes of a file that is there, or not
 abbrev pub short_file : List ℕ → Option (List ℕ) → Result (List ℕ) Refusal
 short_file name None = refuse status.ReadFault (read_refused name)
 short_file name (Some bytes) = if nat_lt most_bytes (length bytes) then refuse status.TooLong (too_long_refused name) else Ok bytes
 
--- the bytes of the plan file, if one is asked for, and of the mesh file, if there is one
-abbrev pub plan_file : (List ℕ → Option (List ℕ)) → Option (List ℕ) → Result (Option (List ℕ)) Refusal
-plan_file file None = Ok None
-plan_file file (Some name) = map_ok Some (short_file name (file name))
+abbrev pub plan_in : List ℕ → Result Plan Refusal
+plan_in bytes = or_refuse status.Plan plan_refused (plan_of bytes)
 
-pub data Supply : Type 0 where
-  Bytes : List ℕ → Supply
-  Ready : Mesh → Supply
+abbrev pub mesh_in : List ℕ → Result Mesh Refusal
+mesh_in bytes = or_refuse status.Mesh msh_refused (content bytes) >>= (λ c. or_refuse status.Mesh mesh_refused (accepted c))
 
-abbrev pub mesh_file : (List ℕ → Option (List ℕ)) → Source → Result Supply Refusal
-mesh_file file (File name) = map_ok Bytes (short_file name (file name))
-mesh_file file (Made kind n) = Ok (Ready (made kind n))
+-- where the files that are asked for are there: the plan or its refusal, and the mesh or its refusal
+abbrev pub plan_asked : (List ℕ → Option (List ℕ)) → Option (List ℕ) → Result (Result Plan Refusal) Refusal
+plan_asked file None = Ok (Ok plain_plan)
+plan_asked file (Some name) = map_ok plan_in (short_file name (file name))
 
-abbrev pub where_plan : Result Plan PlanFault → Result Plan Refusal
-where_plan (Ok p) = Ok p
-where_plan (Err fault) = refuse status.Plan (plan_refused fault)
+abbrev pub mesh_asked : (List ℕ → Option (List ℕ)) → Source → Result (Result Mesh Refusal) Refusal
+mesh_asked file (File name) = map_ok mesh_in (short_file name (file name))
+mesh_asked file (Made kind n) = Ok (Ok (made kind n))
 
-abbrev pub plan_asked : Option (List ℕ) → Result Plan Refusal
-plan_asked None = Ok plain_plan
-plan_asked (Some bytes) = where_plan (plan_of bytes)
+-- a plan and a mesh, unless the plan does not fit the mesh or the mesh has a twist key
+abbrev pub task_of : Bool → Plan → Mesh → Result Task Refusal
+task_of summary plan mesh = do
+  fits ← or_refuse status.Plan plan_refused (unless (misfit plan (length mesh.cells)) plan)
+  even ← or_refuse status.Mesh twist_refused (unless (twist_key mesh) mesh)
+  Ok (record { mesh = even; plan = fits; summary = summary })
 
-abbrev pub where_content : Result Content MshFault → Result Content Refusal
-where_content (Ok c) = Ok c
-where_content (Err fault) = refuse status.Mesh (msh_refused fault)
-
-abbrev pub where_mesh : Result Mesh MeshFault → Result Mesh Refusal
-where_mesh (Ok m) = Ok m
-where_mesh (Err fault) = refuse status.Mesh (mesh_refused fault)
-
-abbrev pub mesh_asked : Supply → Result Mesh Refusal
-mesh_asked (Bytes bytes) = where_content (content bytes) >>= (λ c. where_mesh (accepted c))
-mesh_asked (Ready m) = Ok m
-
-abbrev pub fitting : Option PlanFault → Result (Unit {0}) Refusal
-fitting None = Ok tt
-fitting (Some fault) = refuse status.Plan (plan_refused fault)
-
-abbrev pub untwisted : Option ℕ → Result (Unit {0}) Refusal
-untwisted None = Ok tt
-untwisted (Some key) = refuse status.Mesh (twist_refused key)
-
--- What words and files ask for, or the first refusal that stands; `file` has the bytes under a name.
+-- What words and files ask for, or the first refusal that stands; `file` has the bytes under a name, where it is there.
 unfoldable pub task : List (List ℕ) → (List ℕ → Option (List ℕ)) → Result Task Refusal
 task words file = do
-  asked ← asked_for (request words)
-  plan_bytes ← plan_file file asked.plan
-  supply ← mesh_file file asked.source
-  plan ← plan_asked plan_bytes
-  mesh ← mesh_asked supply
-  fits ← fitting (misfit plan (length mesh.cells))
-  even ← untwisted (twist_key mesh)
-  Ok (record { mesh = mesh; plan = plan; summary = asked.summary })
-
-abbrev pub refusal_where : Result Task Refusal → Option Refusal
-refusal_where (Ok t) = None
-refusal_where (Err r) = Some r
+  asked ← or_refuse status.Words (λ refused. refused) (ok_or (request words) words_refused)
+  plan_or ← plan_asked file asked.plan
+  mesh_or ← mesh_asked file asked.source
+  plan ← plan_or
+  mesh ← mesh_or
+  task_of asked.summary plan mesh
 
 -- the refusal, or none
 abbrev pub refusal : List (List ℕ) → (List ℕ → Option (List ℕ)) → Option Refusal
-refusal words file = refusal_where (task words file)
+refusal words file = result_err (task words file)

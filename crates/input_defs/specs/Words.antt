@@ -22,9 +22,6 @@ pub record Request : Type 0 where
   pub source : Source
   pub summary : Bool
 
-abbrev pub is_word : List ℕ → List ℕ → Bool
-is_word = same_list
-
 -- a name is not empty and does not begin with `-`
 abbrev pub is_file_name : List ℕ → Bool
 is_file_name word = nat_le 1 (length word) && not (get_or word 0 0 == 45)
@@ -42,7 +39,7 @@ abbrev pub kinds : List (List ℕ × Kind)
 kinds = (codes "tri", Tri) ∷ (codes "quad", Quad) ∷ (codes "tet", Tet) ∷ (codes "hex", Hex) ∷ []
 
 abbrev pub kind_named : List ℕ → Option Kind
-kind_named word = option_map (λ (row : List ℕ × Kind). row.1) (find (λ row. is_word row.0 word) kinds)
+kind_named word = option_map (λ (row : List ℕ × Kind). row.1) (find (λ row. same_list row.0 word) kinds)
 
 -- digits without a leading zero, from 1 to the greatest of the kind
 abbrev pub size_of : Kind → List ℕ → Option Source
@@ -51,11 +48,8 @@ size_of kind digits =
     then Some (Made kind (number_of_digits digits))
     else None
 
-abbrev pub is_colon : ℕ → Bool
-is_colon b = b == 58
-
 unfoldable pub made_of : List ℕ → Option Source
-made_of word = option_and_then (λ kind. size_of kind (after_first is_colon word)) (kind_named (before_first is_colon word))
+made_of word = option_and_then (λ kind. size_of kind (after_first (λ b. b == 58) word)) (kind_named (before_first (λ b. b == 58) word))
 
 -- ---- word by word, each thing at most once
 
@@ -75,21 +69,25 @@ abbrev pub with_flag : Asked → Flag → List ℕ → Option Asked
 with_flag asked Plan word = with_plan asked word
 with_flag asked Make word = with_source asked (made_of word)
 
+-- no option waits behind it
+abbrev pub no_more : Option Asked → Option (Option Flag × Asked)
+no_more = option_map (λ asked. (None, asked))
+
 -- a word that no option waits for: what was asked with it, and the option that waits behind it
 unfoldable pub with_word : Asked → List ℕ → Option (Option Flag × Asked)
 with_word asked word =
-    if is_word word (codes "--plan") then Some (Some Plan, asked)
-    else if is_word word (codes "--make") then Some (Some Make, asked)
-    else if is_word word (codes "--summary") then (if asked.summary then None else Some (None, record asked { summary = true }))
-    else if is_word (take 7 word) (codes "--plan=") then option_map (λ next. (None, next)) (with_plan asked (drop 7 word))
-    else if is_word (take 7 word) (codes "--make=") then option_map (λ next. (None, next)) (with_source asked (made_of (drop 7 word)))
-    else if is_file_name word then option_map (λ next. (None, next)) (with_source asked (Some (File word)))
+    if same_list word (codes "--plan") then Some (Some Plan, asked)
+    else if same_list word (codes "--make") then Some (Some Make, asked)
+    else if same_list word (codes "--summary") then no_more (if asked.summary then None else Some (record asked { summary = true }))
+    else if same_list (take 7 word) (codes "--plan=") then no_more (with_plan asked (drop 7 word))
+    else if same_list (take 7 word) (codes "--make=") then no_more (with_source asked (made_of (drop 7 word)))
+    else if is_file_name word then no_more (with_source asked (Some (File word)))
     else None
 
 -- the next word, where an option waits for it or none does
 abbrev pub with_next : Asked → Option Flag → List ℕ → Option (Option Flag × Asked)
 with_next asked None word = with_word asked word
-with_next asked (Some flag) word = option_map (λ next. (None, next)) (with_flag asked flag word)
+with_next asked (Some flag) word = no_more (with_flag asked flag word)
 
 -- exactly one source, and no option without its name
 abbrev pub request_of : Asked → Option Flag → Option Request
