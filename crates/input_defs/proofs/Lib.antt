@@ -5,3 +5,4 @@ pub mod PlateRows
 pub mod PlanRows
 pub mod WordRows
 pub mod MadeRows
+pub mod RefusalRows
