@@ -6,3 +6,4 @@ pub mod PlanRows
 pub mod WordRows
 pub mod MadeRows
 pub mod RefusalRows
+pub mod TextRows

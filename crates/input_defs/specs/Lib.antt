@@ -8,3 +8,4 @@ pub mod Plans
 pub mod Words
 pub mod Generated
 pub mod Refused
+pub mod Further

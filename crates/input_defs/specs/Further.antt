@@ -1,0 +1,97 @@
+-- Further lines of the text, and what stands further in a point's line: names, fields, label values and data.
+use Rattle.std.specs.Prelude.{ℕ, ◌+◌, ◌*◌, ◌/◌, Bool, true, false, ◌&&◌, ◌==◌, if◌then◌else◌, List, [], ◌∷◌, ◌++◌, length, map, filter, fold, flat_map, sum_by, get_or, decimal, codes, ℤ, int_le, int_lt, Option, Some, None}
+use Rattle.std.specs.Fmt.{signed_decimal}
+use Rattle.std.specs.List.{enumerate_from, join_with_byte}
+use Rattle.mesh_defs.specs.declared.Place.{Place}
+use Rattle.mesh_defs.specs.declared.Place.TheVariants as place
+use Rattle.mesh_defs.specs.Lists.{below, sorted}
+use Rattle.mesh_defs.specs.Tables.{dim_of}
+use Rattle.mesh_defs.specs.Mesh.{Mesh, Cell, Mark, Name, Section, placed_cells}
+use Rattle.mesh_defs.specs.Points.{Point, Sight, same_point, point_of, contains}
+use Rattle.mesh_defs.specs.Diagram.{cone}
+use Rattle.text_defs.specs.Numbers.{fixed_text}
+use Rattle.text_defs.specs.Text.{Rank, alone, number_of, tag, tail_text, line, mesh_line, ranks_line, step_line, rank_text, total_text, end_line}
+use Rattle.input_defs.specs.Meshes.{values_of}
+use Rattle.input_defs.specs.Plans.{DofsLine}
+
+-- ---- lines of the head
+
+abbrev pub in_quotes : List ℕ → List ℕ
+in_quotes text = codes " \"" ++ text ++ codes "\""
+
+unfoldable pub name_line : Name → List ℕ
+name_line n = line (codes "name " ++ decimal n.dim ++ codes " " ++ signed_decimal n.number ++ in_quotes n.text)
+
+abbrev pub place_text : Place → List ℕ
+place_text place.Node = codes " node "
+place_text place.Element = codes " element "
+
+-- fields have numbers from 0: the data sections, then the `dofs` lines of the plan
+unfoldable pub section_line : ℕ × Section → List ℕ
+section_line (i, s) = line (codes "field " ++ decimal i ++ place_text s.on ++ decimal s.comps ++ in_quotes s.name)
+
+unfoldable pub dofs_line : ℕ × DofsLine → List ℕ
+dofs_line (i, d) = line (codes "field " ++ decimal i ++ codes " dofs" ++ in_quotes d.name ++ flat_map (λ n. codes " " ++ decimal n) d.dofs)
+
+-- ---- labels
+
+-- a value among rising ones, once
+abbrev pub risen : List ℤ → ℤ → List ℤ
+risen [] v = v ∷ []
+risen (w ∷ ws) v = if int_lt v w then v ∷ w ∷ ws else if int_le v w then w ∷ ws else w ∷ risen ws v
+
+abbrev pub is_mark_on : Point → Mark → Bool
+is_mark_on p mark = same_point p (record { dim = mark.dim; vertices = sorted mark.vertices })
+
+-- the label values of a point, rising
+unfoldable pub labels_at : Mesh → Point → List ℤ
+labels_at m p = fold risen [] (map (λ (mark : Mark). mark.value) (filter (is_mark_on p) m.marks))
+
+-- the label of points of a dimension: Cell Sets, Face Sets, Vertex Sets or Edge Sets
+abbrev pub label_text : ℕ → ℕ → List ℕ
+label_text whole dim = if dim == whole then codes " cell=" else if dim + 1 == whole then codes " face=" else if dim == 0 then codes " vertex=" else codes " edge="
+
+unfoldable pub labels_text : Mesh → Point → List ℕ
+labels_text m p = flat_map (λ v. label_text m.dim p.dim ++ signed_decimal v) (labels_at m p)
+
+-- ---- data
+
+-- the values that a section has for a point
+abbrev pub data_at : Mesh → Sight → Section → Option (List ℤ)
+data_at m s section = data_on section.on
+  where
+    data_on : Place → Option (List ℤ)
+    data_on place.Node = if dim_of s.poly == 0 then values_of section s.key else None
+    data_on place.Element = if dim_of s.poly == m.dim then values_of section (s.key / 64) else None
+
+-- the words of a `dofs` line at a point of a dimension: word i is i + 1 times the sum of c + 1 over the cells c that have it
+unfoldable pub words_at : Mesh → Point → DofsLine → List ℕ
+words_at m p d =
+    map (λ i. (i + 1) * sum_by (λ (c : ℕ × Cell). if contains c.1 p then c.0 + 1 else 0) (placed_cells m)) (below (get_or d.dofs p.dim 0))
+
+abbrev pub field_text : ℕ → List (List ℕ) → List ℕ
+field_text i [] = []
+field_text i (word ∷ words) = codes " d" ++ decimal i ++ codes "=" ++ join_with_byte 44 (word ∷ words)
+
+abbrev pub values_text : ℕ → Option (List ℤ) → List ℕ
+values_text i None = []
+values_text i (Some values) = field_text i (map fixed_text values)
+
+unfoldable pub data_text : Mesh → List DofsLine → Sight → List ℕ
+data_text m dofs s = flat_map (λ (f : ℕ × Section). values_text f.0 (data_at m s f.1)) (enumerate_from 0 m.fields)
+    ++ flat_map (λ (d : ℕ × DofsLine). field_text d.0 (map decimal (words_at m (point_of s) d.1))) (enumerate_from (length m.fields) dofs)
+
+-- ---- the text on one rank, with one part and all points shown
+
+-- a point under its number, with its whole tail
+unfoldable pub full_point : Mesh → List DofsLine → (Point → ℕ) → ℕ × Sight → List ℕ
+full_point m dofs number (n, s) = line (codes "P " ++ decimal n ++ codes " " ++ tag m.dim s.poly s.key ++ tail_text s.poly (cone m number s) (get_or m.at s.key [])
+    ++ labels_text m (point_of s) ++ data_text m dofs s)
+
+unfoldable pub full_head : Mesh → List DofsLine → ℕ → List ℕ
+full_head m dofs ranks = mesh_line m.dim (length m.cells) (length m.at) m.unused m.loose m.merged ++ flat_map name_line m.names
+    ++ flat_map section_line (enumerate_from 0 m.fields) ++ flat_map dofs_line (enumerate_from (length m.fields) dofs) ++ ranks_line ranks
+
+unfoldable pub full_text : Mesh → List DofsLine → List ℕ
+full_text m dofs = full_head m dofs 1 ++ step_line 0 ++ rank_text (0, alone m) ++ total_text m (alone m ∷ [])
+    ++ flat_map (full_point m dofs (number_of (alone m ∷ []))) (enumerate_from 0 (alone m).owned) ++ end_line
