@@ -13,6 +13,7 @@ use Rattle.mesh_defs.specs.Points.{Point, point_on, contains}
 use Rattle.text_defs.specs.Content.{Node, Element, Content}
 use Rattle.input_defs.specs.declared.MeshFault.{MeshFault}
 use Rattle.input_defs.specs.declared.MeshFault.TheVariants.{NoCells, TooManyCells, CellTwist}
+use Rattle.input_defs.specs.Causes.{unless}
 use Rattle.input_defs.specs.Sections.{poly_of_type, has}
 
 -- ---- elements
@@ -143,13 +144,9 @@ is_twisted content element = is_top content element && is_none (relative (poly e
 unfoldable pub twist : Content → Option MeshFault
 twist content = option_map (λ (e : Element). CellTwist e.number (first_at content e).number) (find (is_twisted content) content.elements)
 
-abbrev pub untwisted : Content → Option MeshFault → Result Mesh MeshFault
-untwisted content (Some fault) = Err fault
-untwisted content None = Ok (mesh_of content)
-
 -- the mesh of a content, or the first cause why it has none
 unfoldable pub accepted : Content → Result Mesh MeshFault
 accepted content =
     if nat_lt (greatest_dim content) 2 then Err (NoCells (greatest_dim content))
     else if nat_lt 250000 (length (cell_elements content)) then Err TooManyCells
-    else untwisted content (twist content)
+    else unless (twist content) (mesh_of content)

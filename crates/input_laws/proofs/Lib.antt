@@ -1,0 +1,4 @@
+pub mod Causes
+pub mod Ranks
+pub mod Kept
+pub mod Labels

@@ -1,0 +1,32 @@
+//! Laws of what comes in: what follows from the definitions of mesh files, plans and words alone.
+//!
+//! Each function below does nothing: its contract is the law, and its proof is the law's.
+#![tactic(auto)]
+
+ghost use Rattle.std.specs.Prelude.{◌≡◌, ◌<◌, ℕ, List, Ok, None, Some, Contains, map, find, true, not};
+ghost use Rattle.std.specs.List.{AllByRecursion};
+ghost use Rattle.mesh_defs.specs.Lists.{sorted};
+ghost use Rattle.mesh_defs.specs.Mesh.{Mesh, Mark};
+ghost use Rattle.text_defs.specs.Content.{Element, Content};
+ghost use Rattle.input_defs.specs.Meshes.{accepted, cell_elements, cell_of, vertex_nodes, dim, same_place, is_point};
+ghost use Rattle.input_defs.specs.Plans.{Plan, Spread, Part, plan_of, misfit, rank_by};
+ghost use Rattle.input_laws.specs.Sublists.{IsSublist, differ_in_place};
+
+/// A part gives a rank of the plan to every cell of a mesh that the plan fits.
+pub fn rank_is_below_ranks()
+    ensures { (bytes : List ℕ) (plan : Plan) (cells line : ℕ) (spread : Spread) (cell : ℕ) → plan_of bytes ≡ Ok plan → misfit plan cells ≡ None → Contains plan.moves (line, Part spread) → cell < cells → rank_by plan.ranks spread cell cells < plan.ranks }
+{}
+
+/// Every label value is on a point of the mesh.
+pub fn labels_are_on_points()
+    ensures { (c : Content) (m : Mesh) → accepted c ≡ Ok m → AllByRecursion (λ (mark : Mark). is_point m.cells (record { dim = mark.dim; vertices = sorted mark.vertices }) ≡ true) m.marks }
+{}
+
+/// The cells of a mesh are elements of its dimension in file order, each the first one on its nodes, and no two on the same nodes.
+pub fn cells_are_first_of_their_sets()
+    ensures cells { (c : Content) (m : Mesh) → accepted c ≡ Ok m → m.cells ≡ map (cell_of (vertex_nodes c)) (cell_elements c) }
+    ensures order { (c : Content) → IsSublist (cell_elements c) c.elements }
+    ensures first { (c : Content) → AllByRecursion (λ (e : Element). find (same_place e) c.elements ≡ Some e) (cell_elements c) }
+    ensures dims { (c : Content) (m : Mesh) → accepted c ≡ Ok m → AllByRecursion (λ (e : Element). dim e ≡ m.dim) (cell_elements c) }
+    ensures different { (c : Content) → differ_in_place (cell_elements c) ≡ true }
+{}
