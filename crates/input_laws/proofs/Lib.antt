@@ -2,3 +2,5 @@ pub mod Causes
 pub mod Ranks
 pub mod Kept
 pub mod Labels
+pub mod Local
+pub mod LocalSections

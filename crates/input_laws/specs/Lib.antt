@@ -1,1 +1,2 @@
 pub mod Sublists
+pub mod FaultLines
