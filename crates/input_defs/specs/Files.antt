@@ -150,11 +150,15 @@ step end (Skipping name) parts block blocks = Ok (if closes name block then Open
 abbrev pub content_of : Parts → Content
 content_of parts = record { nodes = unwrap_or parts.nodes []; elements = unwrap_or parts.elements []; names = unwrap_or parts.names []; fields = parts.fields }
 
--- what blocks say behind what was read, where the file ends on this line
+-- where the file ends on this line
+abbrev pub finished : ℕ → Due → Parts → Result Content MshFault
+finished end Opening parts = unless (unfinished parts end) (content_of parts)
+finished end (Closing name) parts = Err (Unclosed end)
+finished end (Skipping name) parts = Err (Unclosed end)
+
+-- what blocks say behind what was read
 unfoldable pub said : ℕ → Due → Parts → List Block → Result Content MshFault
-said end Opening parts [] = unless (unfinished parts end) (content_of parts)
-said end (Closing name) parts [] = Err (Unclosed end)
-said end (Skipping name) parts [] = Err (Unclosed end)
+said end due parts [] = finished end due parts
 said end due parts (block ∷ blocks) = step end due parts block blocks >>= (λ next. said end next.0 next.1 blocks)
 
 -- the content of a mesh file, or its first fault

@@ -4,3 +4,4 @@ pub mod Kept
 pub mod Labels
 pub mod Local
 pub mod LocalSections
+pub mod LocalFiles
