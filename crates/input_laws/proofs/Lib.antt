@@ -5,3 +5,4 @@ pub mod Labels
 pub mod Local
 pub mod LocalSections
 pub mod LocalFiles
+pub mod LocalLines
