@@ -1,5 +1,5 @@
 -- What stands on the lines of a file hangs on these lines alone.
-use Rattle.std.proofs.Common.{◌≡◌, ◌⊎◌, ℕ, zero, suc, ◌+◌, ◌-◌, ◌<◌, ◌≤◌, Bool, true, false, cond, not, ◌&&◌, ◌==◌, nat_le, List, [], ◌∷◌, ◌++◌, map, length, take, drop, Option, Some, None, Ok, Err, inl, inr, ⊎_elim, refl, sym, ap, ap₂, ◌∙◌, subst, arith, append_assoc, length-append, length-drop}
+use Rattle.std.proofs.Common.{◌≡◌, ◌⊎◌, ℕ, zero, suc, ◌+◌, ◌-◌, ◌<◌, ◌≤◌, Bool, true, false, cond, not, ◌&&◌, ◌==◌, nat_le, List, [], ◌∷◌, ◌++◌, map, length, take, drop, Option, Some, None, Ok, Err, inl, inr, ⊎_elim, refl, sym, ap, ap₂, ◌∙◌, subst, arith, append_assoc, append-nil, length-append, length-drop}
 use Rattle.std.specs.Prelude.{option_map, flat_map, slice_range}
 use Rattle.std.specs.List.{AllByRecursion, before_first, position_or_len, prefix_len, suffix_len}
 use Rattle.std.proofs.lemmas.Bool.{and_parts, leb-true, eqb-true, cases_lt}
@@ -121,3 +121,144 @@ lexeme-same a b line t s u w = ap₂ (λ (x : List ℕ) (q : Option (List ℕ)).
   where
     lexeme : List ℕ → Option (List ℕ) → Lexeme
     lexeme x q = record { text = x; quoted = q; line = t.line }
+
+-- ---- the items of a line
+
+-- the length of runs with one blank behind each
+total : List (List ℕ) → ℕ
+total [] = 0
+total (run ∷ runs) = length run + 1 + total runs
+
+total-parts : (test : ℕ → Bool) (text : List ℕ) → total (parts test text) ≡ length text + 1
+unfolding total
+total-parts test [] = refl
+total-parts test (b ∷ bs) = go (test b) (parts test bs) (total-parts test bs)
+  where
+    go : (t : Bool) (runs : List (List ℕ)) → total runs ≡ length bs + 1 → total (cond t ([] ∷ runs) (onto_first b runs)) ≡ length (b ∷ bs) + 1
+    go true runs r = omega (arith, r)
+    go false [] r = absurd (omega (arith, r))
+    go false (run ∷ runs) r = omega (arith, r)
+
+-- a token between two places of a line
+record Between (line : Line) (low high : ℕ) (t : Token) : Type 0 where
+  from : ℕ
+  to : ℕ
+  start : t.start ≡ line.start + from
+  end : t.end ≡ line.start + to
+  low_from : low ≤ from
+  rising : from ≤ to
+  to_high : to ≤ high
+  number : t.line ≡ line.number
+
+tokens-between : (line : Line) (at start high : ℕ) (runs : List (List ℕ)) → start ≡ line.start + at → at + total runs ≤ high + 1 → AllByRecursion (Between line 0 high) (tokens_at start line.number runs)
+unfolding total
+tokens-between line at start high [] place fits = tt
+tokens-between line at start high (run ∷ runs) place fits = go (is_some_bytes run) (tokens-between line (at + length run + 1) (start + length run + 1) high runs (omega (arith, place)) (omega (arith, fits)))
+  where
+    token : Token
+    token = record { start = start; end = start + length run; line = line.number }
+
+    go : (b : Bool) → AllByRecursion (Between line 0 high) (tokens_at (start + length run + 1) line.number runs) → AllByRecursion (Between line 0 high) ((cond b (token ∷ []) []) ++ tokens_at (start + length run + 1) line.number runs)
+    go true r = (record { from = at; to = at + length run; start = place; end = omega (arith, place); low_from = omega arith; rising = omega arith; to_high = omega (arith, fits); number = refl }, r)
+    go false r = r
+
+tokens-within : (line : Line) → AllByRecursion (Within line) (tokens_on line)
+unfolding tokens_on
+tokens-within line = all_weaker (Between line 0 (length line.text)) (Within line) within (tokens_at line.start line.number (parts is_blank line.text))
+    (tokens-between line 0 line.start (length line.text) (parts is_blank line.text) (omega arith) (omega (arith, total-parts is_blank line.text)))
+  where
+    within : (t : Token) → Between line 0 (length line.text) t → Within line t
+    within t b = record { from = b.from; to = b.to; start = b.start; end = b.end; from_low = omega (arith, b.rising, b.to_high); to_low = b.to_high; number = b.number }
+
+-- the token of an item
+abbrev pub token_of : Item → Token
+token_of (Header t) = t
+token_of (Word t) = t
+
+-- the name on a header line may begin past its end where it is empty
+name-text : (a b : List ℕ) (line : Line) → Stands a line → Stands b line → text_of a (name_of line) ≡ text_of b (name_of line)
+unfolding name_of
+name-text a b line s u = same a s ∙ sym (same b u)
+  where
+    same : (bytes : List ℕ) → Stands bytes line → slice_range bytes (line.start + front line.text + 1) (line.start + back line.text) ≡ slice_range line.text (front line.text + 1) (back line.text)
+    same bytes st = let k : line.start + front line.text + 1 ≡ line.start + (front line.text + 1) = omega arith in
+        ap (λ i. slice_range bytes i (line.start + back line.text)) k ∙ slice-in bytes line st (front line.text + 1) (back line.text) (omega arith)
+
+name-number : (line : Line) → (name_of line).line ≡ line.number
+unfolding name_of
+name-number line = refl
+
+-- both files say the same of an item, which is on a line up to this one
+pub SaysSame : List ℕ → List ℕ → ℕ → Item → Type 0
+SaysSame a b l (Header t) = (text_of a t ≡ text_of b t) × (t.line ≤ l)
+SaysSame a b l (Word t) = (lexeme_of a t ≡ lexeme_of b t) × (t.line ≤ l)
+
+pub items_on-same : (a b : List ℕ) (l : ℕ) (line : Line) → Stands a line → Stands b line → line.number ≤ l → AllByRecursion (SaysSame a b l) (items_on line)
+unfolding items_on SaysSame
+items_on-same a b l line s u low = go (is_header line.text)
+  where
+    go : (t : Bool) → AllByRecursion (SaysSame a b l) (cond t (Header (name_of line) ∷ []) (words_on line))
+    go true = ((name-text a b line s u, omega (arith, name-number line, low)), tt)
+    go false = all_map (SaysSame a b l) Word (tokens_on line) (all_weaker (Within line) (λ t. (lexeme_of a t ≡ lexeme_of b t) × (t.line ≤ l)) (λ t w. (lexeme-same a b line t s u w, omega (arith, w.number, low))) (tokens_on line) (tokens-within line))
+
+-- the items of a line behind this one
+pub items_on-late : (l : ℕ) (line : Line) → l < line.number → AllByRecursion (λ item. l < (token_of item).line) (items_on line)
+unfolding items_on
+items_on-late l line late = go (is_header line.text)
+  where
+    go : (t : Bool) → AllByRecursion (λ item. l < (token_of item).line) (cond t (Header (name_of line) ∷ []) (words_on line))
+    go true = (omega (arith, name-number line, late), tt)
+    go false = all_map (λ item. l < (token_of item).line) Word (tokens_on line) (all_weaker (Within line) (λ t. l < t.line) (λ t w. omega (arith, w.number, late)) (tokens_on line) (tokens-within line))
+
+-- ---- the lines of a file
+
+-- texts with an LF between two of them
+joined : List (List ℕ) → List ℕ
+joined [] = []
+joined (text ∷ []) = text
+joined (text ∷ next ∷ texts) = text ++ 10 ∷ joined (next ∷ texts)
+
+joined-parts : (bytes : List ℕ) → joined (parts is_newline bytes) ≡ bytes
+unfolding total joined
+joined-parts [] = refl
+joined-parts (b ∷ bs) = go (is_newline b) refl (parts is_newline bs) (total-parts is_newline bs) (joined-parts bs)
+  where
+    go : (t : Bool) → is_newline b ≡ t → (texts : List (List ℕ)) → total texts ≡ length bs + 1 → joined texts ≡ bs → joined (cond t ([] ∷ texts) (onto_first b texts)) ≡ b ∷ bs
+    go t e [] r same = absurd (omega (arith, r))
+    go true e (text ∷ texts) r same = ap₂ (λ (x : ℕ) xs. x ∷ xs) (sym (eqb-true b 10 e)) same
+    go false e (text ∷ []) r same = ap (λ xs. b ∷ xs) same
+    go false e (text ∷ next ∷ texts) r same = ap (λ xs. b ∷ xs) same
+
+-- each line stands in the file
+lines-stand : (bytes before : List ℕ) (start number : ℕ) (texts : List (List ℕ)) → bytes ≡ before ++ joined texts → length before ≡ start → AllByRecursion (Stands bytes) (lines_at start number texts)
+unfolding joined Ending
+lines-stand bytes before start number [] whole place = tt
+lines-stand bytes before start number (text ∷ []) whole place = (record { before = before; rest = []; whole = whole ∙ ap (λ xs. before ++ xs) (sym (append-nil text)); place = place; ends = inl refl }, tt)
+lines-stand bytes before start number (text ∷ next ∷ texts) whole place = (record { before = before; rest = 10 ∷ joined (next ∷ texts); whole = whole; place = place; ends = inr (joined (next ∷ texts), refl) },
+    lines-stand bytes (before ++ (text ++ 10 ∷ [])) (start + length text + 1) (number + 1) (next ∷ texts)
+    (whole ∙ sym (append_assoc before (text ++ 10 ∷ []) (joined (next ∷ texts)) ∙ ap (λ xs. before ++ xs) (append_assoc text (10 ∷ []) (joined (next ∷ texts)))))
+    (omega (arith, length-append before (text ++ 10 ∷ []), length-append text (10 ∷ []), place)))
+
+pub file-stands : (bytes : List ℕ) → AllByRecursion (Stands bytes) (lines_at 0 1 (lines_of bytes))
+unfolding lines_of
+file-stands bytes = lines-stand bytes [] 0 1 (parts is_newline bytes) (sym (joined-parts bytes)) refl
+
+-- the first lines and the others
+pub lines-apart : (start number : ℕ) (ts us : List (List ℕ)) → (start' : ℕ) × (lines_at start number (ts ++ us) ≡ lines_at start number ts ++ lines_at start' (number + length ts) us)
+lines-apart start number [] us = (start, ap (λ n. lines_at start n us) none)
+  where
+    none : number ≡ number + 0
+    none = omega arith
+lines-apart start number (t ∷ ts) us =
+    let rest = lines-apart (start + length t + 1) (number + 1) ts us in
+    let k : number + 1 + length ts ≡ number + length (t ∷ ts) = omega arith in
+    (rest.0, ap (λ ls. record { start = start; number = number; text = t } ∷ ls) (rest.1 ∙ ap (λ n. lines_at (start + length t + 1) (number + 1) ts ++ lines_at rest.0 n us) k))
+
+-- the numbers of lines
+pub numbers-low : (start number l : ℕ) (texts : List (List ℕ)) → number + length texts ≤ l + 1 → AllByRecursion (λ (line : Line). line.number ≤ l) (lines_at start number texts)
+numbers-low start number l [] low = tt
+numbers-low start number l (t ∷ ts) low = (omega (arith, low), numbers-low (start + length t + 1) (number + 1) l ts (omega (arith, low)))
+
+pub numbers-late : (start number l : ℕ) (texts : List (List ℕ)) → l < number → AllByRecursion (λ (line : Line). l < line.number) (lines_at start number texts)
+numbers-late start number l [] late = tt
+numbers-late start number l (t ∷ ts) late = (late, numbers-late (start + length t + 1) (number + 1) l ts (omega (arith, late)))
