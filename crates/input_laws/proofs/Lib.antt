@@ -6,3 +6,4 @@ pub mod Local
 pub mod LocalSections
 pub mod LocalFiles
 pub mod LocalLines
+pub mod LocalBytes

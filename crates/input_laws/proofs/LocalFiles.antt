@@ -125,7 +125,7 @@ with_section-local parts (Data on) = record {
 
 -- ---- blocks behind a line
 
-pub BeyondBlock : ℕ → Block → Type 0
+unfoldable pub BeyondBlock : ℕ → Block → Type 0
 BeyondBlock l b = (l < b.line) × Beyond l b.body
 
 abbrev pub AllBeyond : ℕ → List Block → Type 0

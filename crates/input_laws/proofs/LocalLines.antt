@@ -189,7 +189,7 @@ unfolding name_of
 name-number line = refl
 
 -- both files say the same of an item, which is on a line up to this one
-pub SaysSame : List ℕ → List ℕ → ℕ → Item → Type 0
+unfoldable pub SaysSame : List ℕ → List ℕ → ℕ → Item → Type 0
 SaysSame a b l (Header t) = (text_of a t ≡ text_of b t) × (t.line ≤ l)
 SaysSame a b l (Word t) = (lexeme_of a t ≡ lexeme_of b t) × (t.line ≤ l)
 

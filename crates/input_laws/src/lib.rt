@@ -3,13 +3,17 @@
 //! Each function below does nothing: its contract is the law, and its proof is the law's.
 #![tactic(auto)]
 
-ghost use Rattle.std.specs.Prelude.{◌≡◌, ◌<◌, ℕ, List, Ok, None, Some, Contains, map, find, true, not};
+ghost use Rattle.std.specs.Prelude.{◌≡◌, ◌<◌, ◌≤◌, ℕ, List, [], ◌∷◌, ◌++◌, length, take, Ok, Err, None, Some, Contains, map, find, true};
 ghost use Rattle.std.specs.List.{AllByRecursion};
 ghost use Rattle.mesh_defs.specs.Lists.{sorted};
 ghost use Rattle.mesh_defs.specs.Mesh.{Mesh, Mark};
+ghost use Rattle.text_defs.specs.Rows.{lines_of};
 ghost use Rattle.text_defs.specs.Content.{Element, Content};
+ghost use Rattle.input_defs.specs.declared.MshFault.{MshFault};
+ghost use Rattle.input_defs.specs.Files.{content};
 ghost use Rattle.input_defs.specs.Meshes.{accepted, cell_elements, cell_of, vertex_nodes, dim, same_place, is_point};
 ghost use Rattle.input_defs.specs.Plans.{Plan, Spread, Part, plan_of, misfit, rank_by};
+ghost use Rattle.input_laws.specs.FaultLines.{line_of};
 ghost use Rattle.input_laws.specs.Sublists.{IsSublist, differ_in_place};
 
 /// A part gives a rank of the plan to every cell of a mesh that the plan fits.
@@ -29,4 +33,12 @@ pub fn cells_are_first_of_their_sets()
     ensures first { (c : Content) → AllByRecursion (λ (e : Element). find (same_place e) c.elements ≡ Some e) (cell_elements c) }
     ensures dims { (c : Content) (m : Mesh) → accepted c ≡ Ok m → AllByRecursion (λ (e : Element). dim e ≡ m.dim) (cell_elements c) }
     ensures different { (c : Content) → differ_in_place (cell_elements c) ≡ true }
+{}
+
+/// The first fault of a mesh file hangs on the file up to the end of the fault's line alone. For a fault at the end of the
+/// file that is the whole file. On the last line of a file that does not end with LF, a fault is at the end where an LF
+/// behind the file changes it.
+pub fn fault_is_local()
+    ensures before_the_last_line { (a b : List ℕ) (fault : MshFault) (line : ℕ) → content a ≡ Err fault → line_of fault ≤ line → line < length (lines_of a) → take line (lines_of a) ≡ take line (lines_of b) → content b ≡ Err fault }
+    ensures on_the_last_line { (a b : List ℕ) (fault : MshFault) (line : ℕ) → content (a ++ 10 ∷ []) ≡ Err fault → line_of fault ≤ line → line ≤ length (lines_of a) → take line (lines_of a) ≡ take line (lines_of b) → content b ≡ Err fault }
 {}
