@@ -1,9 +1,9 @@
 -- Worked rows: forms that a mesh file may take, and the first of several faults.
-use Rattle.std.proofs.Common.{◌≡◌, ℕ, true, false, List, [], ◌∷◌, ◌++◌, map, ℤ, pos, negsuc, Option, Some, None, Ok, Err, refl}
+use Rattle.std.proofs.Common.{◌≡◌, ℕ, true, false, List, [], ◌∷◌, ◌++◌, map, pos, negsuc, Some, None, Ok, Err, refl}
 use Rattle.std.specs.Prelude.{Result, codes, replicate, flat_map}
 use Rattle.text_defs.specs.Rows.{lines_of}
-use Rattle.text_defs.specs.Content.{Node, Element, Content}
-use Rattle.mesh_defs.specs.Mesh.{Name, Row, Section}
+use Rattle.text_defs.specs.Content.{Content}
+use Rattle.mesh_defs.specs.Mesh.{Section}
 use Rattle.mesh_defs.specs.declared.Place.TheVariants as place
 use Rattle.scan_defs.specs.Lines.{line_number, lines_from, is_indent}
 use Rattle.scan_defs.specs.Items.{name_of, tokens_on, items_on, items_of, ahead}
@@ -11,7 +11,7 @@ use Rattle.scan_defs.specs.Quotes.{quoted_on}
 use Rattle.scan_defs.specs.Numbers.{uint_of, int_of, decimal_of, scaled, fixed_value, fixed_of}
 use Rattle.input_defs.specs.declared.What.TheVariants as what
 use Rattle.input_defs.specs.declared.MshFault.{MshFault}
-use Rattle.input_defs.specs.declared.MshFault.TheVariants.{NotMsh, Version, Binary, Header, BadNumber, BadCount, BadName, Unclosed, RepeatedSection, MissingSection, RepeatedNodeNumber, ElementType, UnknownNode, RepeatedNode, Components, UnknownNumber, OutOfRange, TooMany}
+use Rattle.input_defs.specs.declared.MshFault.TheVariants.{NotMsh, Version, Header, BadNumber, BadCount, BadName, Unclosed, RepeatedSection, MissingSection, RepeatedNodeNumber, ElementType, UnknownNode, RepeatedNode, Components, UnknownNumber, OutOfRange, TooMany}
 use Rattle.input_defs.specs.Bodies.{lexeme_of}
 use Rattle.input_defs.specs.Sections.{format, name, names, node, nodes_behind, nodes, element, elements}
 use Rattle.input_defs.specs.DataSections.{row, section, section_of}

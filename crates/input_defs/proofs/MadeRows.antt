@@ -1,11 +1,10 @@
 -- Worked rows: small generated meshes.
-use Rattle.std.proofs.Common.{◌≡◌, ℕ, true, false, List, [], ◌∷◌, ◌++◌, map, ℤ, pos, negsuc, Option, Some, None, Ok, Err, refl}
-use Rattle.std.specs.Prelude.{Result, codes}
+use Rattle.std.proofs.Common.{◌≡◌, ℕ, List, [], ◌∷◌, map, ℤ, pos, refl}
 use Rattle.input_defs.specs.Generated.{grid_points, grid_cells, corners_at, cells_at, made}
 use Rattle.std.specs.Prelude.{length, ◌*◌, ◌^◌}
 use Rattle.mesh_defs.specs.declared.Poly.{Poly}
 use Rattle.mesh_defs.specs.declared.Poly.TheVariants as poly
-use Rattle.mesh_defs.specs.Mesh.{Mesh, Cell}
+use Rattle.mesh_defs.specs.Mesh.{Cell}
 use Rattle.input_defs.specs.declared.Kind.TheVariants.{Tri, Quad, Tet, Hex}
 
 abbrev cell : Poly → List ℕ → Cell

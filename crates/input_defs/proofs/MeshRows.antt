@@ -1,15 +1,12 @@
 -- Worked rows: the meshes of small files, and why some contents have none.
-use Rattle.std.proofs.Common.{◌≡◌, ℕ, true, false, List, [], ◌∷◌, ◌++◌, map, ℤ, pos, negsuc, Option, Some, None, Ok, Err, refl}
+use Rattle.std.proofs.Common.{◌≡◌, ℕ, List, [], ◌∷◌, ◌++◌, map, ℤ, pos, negsuc, Option, Some, None, Ok, Err, refl}
 use Rattle.std.specs.Prelude.{Result, codes}
-use Rattle.std.specs.Result.{result_ok, result_err}
 use Rattle.text_defs.specs.Rows.{lines_of}
 use Rattle.text_defs.specs.Content.{Content}
-use Rattle.mesh_defs.specs.declared.Poly.{Poly}
-use Rattle.mesh_defs.specs.declared.Poly.TheVariants.{Triangle, Quad, Tet}
-use Rattle.mesh_defs.specs.declared.Place.TheVariants as place
+use Rattle.mesh_defs.specs.declared.Poly.TheVariants.{Triangle, Tet}
 use Rattle.mesh_defs.specs.Lists.{sorted}
 use Rattle.mesh_defs.specs.Orientation.{rotations, reflections, orientations, corners_under, act, relative}
-use Rattle.mesh_defs.specs.Mesh.{Mesh, Cell, Mark, Name, Row, Section}
+use Rattle.mesh_defs.specs.Mesh.{Mesh, Row, Section}
 use Rattle.mesh_defs.specs.Points.{sights_of, contains}
 use Rattle.scan_defs.specs.Lines.{line_number, lines_from, is_indent}
 use Rattle.scan_defs.specs.Items.{name_of, tokens_on, items_on, items_of, ahead}
@@ -17,7 +14,7 @@ use Rattle.scan_defs.specs.Quotes.{quoted_on}
 use Rattle.scan_defs.specs.Numbers.{uint_of, int_of, decimal_of, scaled, fixed_value, fixed_of}
 use Rattle.input_defs.specs.declared.MshFault.{MshFault}
 use Rattle.input_defs.specs.declared.MeshFault.{MeshFault}
-use Rattle.input_defs.specs.declared.MeshFault.TheVariants.{NoCells, TooManyCells, CellTwist}
+use Rattle.input_defs.specs.declared.MeshFault.TheVariants.{NoCells, CellTwist}
 use Rattle.input_defs.specs.Bodies.{lexeme_of}
 use Rattle.input_defs.specs.Sections.{format, name, names, node, nodes_behind, nodes, element, elements}
 use Rattle.input_defs.specs.DataSections.{row, section, section_of}

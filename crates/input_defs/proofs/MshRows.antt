@@ -1,18 +1,14 @@
 -- Worked rows: the content of small mesh files, and the first faults of files that are not right.
-use Rattle.std.proofs.Common.{◌≡◌, ℕ, true, false, List, [], ◌∷◌, ◌++◌, map, ℤ, pos, negsuc, Option, Some, None, Ok, Err, refl}
-use Rattle.std.specs.Prelude.{Result, codes}
+use Rattle.std.proofs.Common.{◌≡◌, ℕ, true, false, List, [], ◌∷◌, ◌++◌, map, pos, Option, Some, Ok, refl}
+use Rattle.std.specs.Prelude.{codes}
 use Rattle.std.specs.Result.{result_err}
 use Rattle.text_defs.specs.Rows.{lines_of}
-use Rattle.text_defs.specs.Content.{Node, Element, Content}
-use Rattle.mesh_defs.specs.Mesh.{Row, Section}
-use Rattle.mesh_defs.specs.declared.Place.TheVariants as place
 use Rattle.scan_defs.specs.Lines.{line_number, lines_from, is_indent}
 use Rattle.scan_defs.specs.Items.{name_of, tokens_on, items_on, items_of, ahead}
 use Rattle.scan_defs.specs.Quotes.{quoted_on}
 use Rattle.scan_defs.specs.Numbers.{uint_of, int_of, decimal_of, scaled, fixed_value, fixed_of}
-use Rattle.input_defs.specs.declared.What.TheVariants as what
 use Rattle.input_defs.specs.declared.MshFault.{MshFault}
-use Rattle.input_defs.specs.declared.MshFault.TheVariants.{NotMsh, Version, Binary, Header, BadNumber, BadCount, BadName, Unclosed, RepeatedSection, MissingSection, RepeatedNodeNumber, ElementType, UnknownNode, RepeatedNode, Components, UnknownNumber, OutOfRange, TooMany}
+use Rattle.input_defs.specs.declared.MshFault.TheVariants.{NotMsh, Version, Binary, BadNumber, BadCount, Unclosed, MissingSection, RepeatedNodeNumber, ElementType, UnknownNode, RepeatedNode, OutOfRange}
 use Rattle.input_defs.specs.Bodies.{lexeme_of}
 use Rattle.input_defs.specs.Sections.{format, name, names, node, nodes_behind, nodes, element, elements}
 use Rattle.input_defs.specs.DataSections.{row, section, section_of}

@@ -1,6 +1,6 @@
 -- Worked rows: a square plate with a round hole, its lines ended by CR LF. Node 5 is the centre of the hole and in no cell.
-use Rattle.std.proofs.Common.{◌≡◌, ℕ, true, false, List, [], ◌∷◌, ◌++◌, map, ℤ, pos, negsuc, Option, Some, None, Ok, Err, refl}
-use Rattle.std.specs.Prelude.{Result, codes}
+use Rattle.std.proofs.Common.{◌≡◌, ℕ, List, [], ◌∷◌, ◌++◌, pos, negsuc, Ok, refl}
+use Rattle.std.specs.Prelude.{codes}
 use Rattle.text_defs.specs.Rows.{lines_of}
 use Rattle.scan_defs.specs.Lines.{line_number, lines_from, is_indent}
 use Rattle.scan_defs.specs.Items.{name_of, tokens_on, items_on, items_of, ahead}
@@ -16,9 +16,7 @@ use Rattle.mesh_defs.specs.Points.{sights_of, contains}
 use Rattle.input_defs.specs.Meshes.{kept, greatest_dim, vertex_nodes, cell_elements, cells_of, marks_of, loose_elements, section_on, values_of, mesh_of, twist, accepted}
 use Rattle.text_defs.specs.Content.{Content}
 use Rattle.mesh_defs.specs.declared.Poly.TheVariants.{Triangle}
-use Rattle.mesh_defs.specs.Mesh.{Mesh, Cell, Mark, Name}
-use Rattle.input_defs.specs.declared.MshFault.{MshFault}
-use Rattle.input_defs.specs.declared.MeshFault.{MeshFault}
+use Rattle.mesh_defs.specs.Mesh.{Mesh, Name}
 
 abbrev pub plate : List ℕ
 plate = codes "$MeshFormat\r\n2.2 0 8\r\n$EndMeshFormat\r\n$PhysicalNames\r\n3\r\n1 1 \"outer\"\r\n1 2 \"hole\"\r\n2 3 \"plate\"\r\n$EndPhysicalNames\r\n"
@@ -33,21 +31,21 @@ abbrev pub plate_content : Content
 plate_content = record {
   nodes = record { number = 1; at = pos 30000000000 ∷ pos 30000000000 ∷ pos 0 ∷ [] } ∷ record { number = 2; at = negsuc 29999999999 ∷ pos 30000000000 ∷ pos 0 ∷ [] } ∷ record { number = 3; at = negsuc 29999999999 ∷ negsuc 29999999999 ∷ pos 0 ∷ [] } ∷ record { number = 4; at = pos 30000000000 ∷ negsuc 29999999999 ∷ pos 0 ∷ [] } ∷ record { number = 5; at = pos 0 ∷ pos 0 ∷ pos 0 ∷ [] } ∷ record { number = 6; at = pos 10000000000 ∷ pos 0 ∷ pos 0 ∷ [] } ∷ record { number = 7; at = pos 0 ∷ pos 10000000000 ∷ pos 0 ∷ [] } ∷ record { number = 8; at = negsuc 9999999999 ∷ pos 0 ∷ pos 0 ∷ [] } ∷ record { number = 9; at = pos 0 ∷ negsuc 9999999999 ∷ pos 0 ∷ [] } ∷ [];
   elements = record { number = 1; kind = 1; physical = pos 1; nodes = 1 ∷ 2 ∷ [] }
-    ∷ record { number = 2; kind = 1; physical = pos 1; nodes = 2 ∷ 3 ∷ [] }
-    ∷ record { number = 3; kind = 1; physical = pos 1; nodes = 3 ∷ 4 ∷ [] }
-    ∷ record { number = 4; kind = 1; physical = pos 1; nodes = 4 ∷ 1 ∷ [] }
-    ∷ record { number = 5; kind = 1; physical = pos 2; nodes = 6 ∷ 7 ∷ [] }
-    ∷ record { number = 6; kind = 1; physical = pos 2; nodes = 7 ∷ 8 ∷ [] }
-    ∷ record { number = 7; kind = 1; physical = pos 2; nodes = 8 ∷ 9 ∷ [] }
-    ∷ record { number = 8; kind = 1; physical = pos 2; nodes = 9 ∷ 6 ∷ [] }
-    ∷ record { number = 9; kind = 2; physical = pos 3; nodes = 1 ∷ 7 ∷ 6 ∷ [] }
-    ∷ record { number = 10; kind = 2; physical = pos 3; nodes = 2 ∷ 8 ∷ 7 ∷ [] }
-    ∷ record { number = 11; kind = 2; physical = pos 3; nodes = 3 ∷ 9 ∷ 8 ∷ [] }
-    ∷ record { number = 12; kind = 2; physical = pos 3; nodes = 4 ∷ 6 ∷ 9 ∷ [] }
-    ∷ record { number = 13; kind = 2; physical = pos 3; nodes = 1 ∷ 2 ∷ 7 ∷ [] }
-    ∷ record { number = 14; kind = 2; physical = pos 3; nodes = 2 ∷ 3 ∷ 8 ∷ [] }
-    ∷ record { number = 15; kind = 2; physical = pos 3; nodes = 3 ∷ 4 ∷ 9 ∷ [] }
-    ∷ record { number = 16; kind = 2; physical = pos 3; nodes = 4 ∷ 1 ∷ 6 ∷ [] } ∷ [];
+      ∷ record { number = 2; kind = 1; physical = pos 1; nodes = 2 ∷ 3 ∷ [] }
+      ∷ record { number = 3; kind = 1; physical = pos 1; nodes = 3 ∷ 4 ∷ [] }
+      ∷ record { number = 4; kind = 1; physical = pos 1; nodes = 4 ∷ 1 ∷ [] }
+      ∷ record { number = 5; kind = 1; physical = pos 2; nodes = 6 ∷ 7 ∷ [] }
+      ∷ record { number = 6; kind = 1; physical = pos 2; nodes = 7 ∷ 8 ∷ [] }
+      ∷ record { number = 7; kind = 1; physical = pos 2; nodes = 8 ∷ 9 ∷ [] }
+      ∷ record { number = 8; kind = 1; physical = pos 2; nodes = 9 ∷ 6 ∷ [] }
+      ∷ record { number = 9; kind = 2; physical = pos 3; nodes = 1 ∷ 7 ∷ 6 ∷ [] }
+      ∷ record { number = 10; kind = 2; physical = pos 3; nodes = 2 ∷ 8 ∷ 7 ∷ [] }
+      ∷ record { number = 11; kind = 2; physical = pos 3; nodes = 3 ∷ 9 ∷ 8 ∷ [] }
+      ∷ record { number = 12; kind = 2; physical = pos 3; nodes = 4 ∷ 6 ∷ 9 ∷ [] }
+      ∷ record { number = 13; kind = 2; physical = pos 3; nodes = 1 ∷ 2 ∷ 7 ∷ [] }
+      ∷ record { number = 14; kind = 2; physical = pos 3; nodes = 2 ∷ 3 ∷ 8 ∷ [] }
+      ∷ record { number = 15; kind = 2; physical = pos 3; nodes = 3 ∷ 4 ∷ 9 ∷ [] }
+      ∷ record { number = 16; kind = 2; physical = pos 3; nodes = 4 ∷ 1 ∷ 6 ∷ [] } ∷ [];
   names = plate_names;
   fields = [];
 }
@@ -62,29 +60,29 @@ plate_mesh = record {
   dim = 2;
   at = (pos 30000000000 ∷ pos 30000000000 ∷ pos 0 ∷ []) ∷ (negsuc 29999999999 ∷ pos 30000000000 ∷ pos 0 ∷ []) ∷ (negsuc 29999999999 ∷ negsuc 29999999999 ∷ pos 0 ∷ []) ∷ (pos 30000000000 ∷ negsuc 29999999999 ∷ pos 0 ∷ []) ∷ (pos 10000000000 ∷ pos 0 ∷ pos 0 ∷ []) ∷ (pos 0 ∷ pos 10000000000 ∷ pos 0 ∷ []) ∷ (negsuc 9999999999 ∷ pos 0 ∷ pos 0 ∷ []) ∷ (pos 0 ∷ negsuc 9999999999 ∷ pos 0 ∷ []) ∷ [];
   cells = record { poly = Triangle; vertices = 0 ∷ 5 ∷ 4 ∷ [] }
-    ∷ record { poly = Triangle; vertices = 1 ∷ 6 ∷ 5 ∷ [] }
-    ∷ record { poly = Triangle; vertices = 2 ∷ 7 ∷ 6 ∷ [] }
-    ∷ record { poly = Triangle; vertices = 3 ∷ 4 ∷ 7 ∷ [] }
-    ∷ record { poly = Triangle; vertices = 0 ∷ 1 ∷ 5 ∷ [] }
-    ∷ record { poly = Triangle; vertices = 1 ∷ 2 ∷ 6 ∷ [] }
-    ∷ record { poly = Triangle; vertices = 2 ∷ 3 ∷ 7 ∷ [] }
-    ∷ record { poly = Triangle; vertices = 3 ∷ 0 ∷ 4 ∷ [] } ∷ [];
+      ∷ record { poly = Triangle; vertices = 1 ∷ 6 ∷ 5 ∷ [] }
+      ∷ record { poly = Triangle; vertices = 2 ∷ 7 ∷ 6 ∷ [] }
+      ∷ record { poly = Triangle; vertices = 3 ∷ 4 ∷ 7 ∷ [] }
+      ∷ record { poly = Triangle; vertices = 0 ∷ 1 ∷ 5 ∷ [] }
+      ∷ record { poly = Triangle; vertices = 1 ∷ 2 ∷ 6 ∷ [] }
+      ∷ record { poly = Triangle; vertices = 2 ∷ 3 ∷ 7 ∷ [] }
+      ∷ record { poly = Triangle; vertices = 3 ∷ 0 ∷ 4 ∷ [] } ∷ [];
   marks = record { dim = 1; vertices = 0 ∷ 1 ∷ []; value = pos 1 }
-    ∷ record { dim = 1; vertices = 1 ∷ 2 ∷ []; value = pos 1 }
-    ∷ record { dim = 1; vertices = 2 ∷ 3 ∷ []; value = pos 1 }
-    ∷ record { dim = 1; vertices = 3 ∷ 0 ∷ []; value = pos 1 }
-    ∷ record { dim = 1; vertices = 4 ∷ 5 ∷ []; value = pos 2 }
-    ∷ record { dim = 1; vertices = 5 ∷ 6 ∷ []; value = pos 2 }
-    ∷ record { dim = 1; vertices = 6 ∷ 7 ∷ []; value = pos 2 }
-    ∷ record { dim = 1; vertices = 7 ∷ 4 ∷ []; value = pos 2 }
-    ∷ record { dim = 2; vertices = 0 ∷ 5 ∷ 4 ∷ []; value = pos 3 }
-    ∷ record { dim = 2; vertices = 1 ∷ 6 ∷ 5 ∷ []; value = pos 3 }
-    ∷ record { dim = 2; vertices = 2 ∷ 7 ∷ 6 ∷ []; value = pos 3 }
-    ∷ record { dim = 2; vertices = 3 ∷ 4 ∷ 7 ∷ []; value = pos 3 }
-    ∷ record { dim = 2; vertices = 0 ∷ 1 ∷ 5 ∷ []; value = pos 3 }
-    ∷ record { dim = 2; vertices = 1 ∷ 2 ∷ 6 ∷ []; value = pos 3 }
-    ∷ record { dim = 2; vertices = 2 ∷ 3 ∷ 7 ∷ []; value = pos 3 }
-    ∷ record { dim = 2; vertices = 3 ∷ 0 ∷ 4 ∷ []; value = pos 3 } ∷ [];
+      ∷ record { dim = 1; vertices = 1 ∷ 2 ∷ []; value = pos 1 }
+      ∷ record { dim = 1; vertices = 2 ∷ 3 ∷ []; value = pos 1 }
+      ∷ record { dim = 1; vertices = 3 ∷ 0 ∷ []; value = pos 1 }
+      ∷ record { dim = 1; vertices = 4 ∷ 5 ∷ []; value = pos 2 }
+      ∷ record { dim = 1; vertices = 5 ∷ 6 ∷ []; value = pos 2 }
+      ∷ record { dim = 1; vertices = 6 ∷ 7 ∷ []; value = pos 2 }
+      ∷ record { dim = 1; vertices = 7 ∷ 4 ∷ []; value = pos 2 }
+      ∷ record { dim = 2; vertices = 0 ∷ 5 ∷ 4 ∷ []; value = pos 3 }
+      ∷ record { dim = 2; vertices = 1 ∷ 6 ∷ 5 ∷ []; value = pos 3 }
+      ∷ record { dim = 2; vertices = 2 ∷ 7 ∷ 6 ∷ []; value = pos 3 }
+      ∷ record { dim = 2; vertices = 3 ∷ 4 ∷ 7 ∷ []; value = pos 3 }
+      ∷ record { dim = 2; vertices = 0 ∷ 1 ∷ 5 ∷ []; value = pos 3 }
+      ∷ record { dim = 2; vertices = 1 ∷ 2 ∷ 6 ∷ []; value = pos 3 }
+      ∷ record { dim = 2; vertices = 2 ∷ 3 ∷ 7 ∷ []; value = pos 3 }
+      ∷ record { dim = 2; vertices = 3 ∷ 0 ∷ 4 ∷ []; value = pos 3 } ∷ [];
   names = plate_names;
   fields = [];
   unused = 1;

@@ -1,6 +1,6 @@
 -- Worked rows: the refusal of words, plan bytes and mesh bytes, with its status and its line.
-use Rattle.std.proofs.Common.{◌≡◌, ℕ, true, false, List, [], ◌∷◌, ◌++◌, map, ℤ, pos, negsuc, Option, Some, None, Ok, Err, refl}
-use Rattle.std.specs.Prelude.{Result, codes}
+use Rattle.std.proofs.Common.{◌≡◌, ℕ, true, List, [], ◌∷◌, ◌++◌, map, Option, Some, None, Err, refl}
+use Rattle.std.specs.Prelude.{codes}
 use Rattle.text_defs.specs.Rows.{lines_of, tokens_of}
 use Rattle.scan_defs.specs.Lines.{line_number, lines_from, is_indent}
 use Rattle.scan_defs.specs.Items.{name_of, tokens_on, items_on, items_of, ahead}

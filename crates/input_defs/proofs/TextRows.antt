@@ -1,5 +1,5 @@
 -- Worked rows: the texts of mesh files, with names, labels and data.
-use Rattle.std.proofs.Common.{◌≡◌, ℕ, Bool, true, false, List, [], ◌∷◌, ◌++◌, map, ℤ, pos, negsuc, Option, Some, None, Ok, Err, refl}
+use Rattle.std.proofs.Common.{◌≡◌, ℕ, Bool, true, List, [], ◌∷◌, map, Option, Some, None, Ok, Err, refl}
 use Rattle.std.specs.Prelude.{Result, codes}
 use Rattle.text_defs.specs.Rows.{lines_of}
 use Rattle.scan_defs.specs.Lines.{line_number, lines_from, is_indent}
@@ -15,7 +15,7 @@ use Rattle.mesh_defs.specs.Orientation.{rotations, reflections, orientations, co
 use Rattle.mesh_defs.specs.Points.{sights_of, first_sight, key, arrangement, contains}
 use Rattle.mesh_defs.specs.Diagram.{stratum, strata, chart, seen_under, entry, cone}
 use Rattle.input_defs.specs.Meshes.{kept, greatest_dim, vertex_nodes, cell_elements, cells_of, marks_of, loose_elements, section_on, values_of, mesh_of, twist, accepted}
-use Rattle.std.specs.Prelude.{take, option_map}
+use Rattle.std.specs.Prelude.{take}
 use Rattle.std.specs.List.{list_all, list_any}
 use Rattle.std.specs.Fmt.{digits}
 use Rattle.mesh_defs.specs.Mesh.{Mesh}

@@ -1,11 +1,11 @@
 -- Worked rows: words that are accepted, and words that are not.
-use Rattle.std.proofs.Common.{◌≡◌, ℕ, true, false, List, [], ◌∷◌, ◌++◌, map, ℤ, pos, negsuc, Option, Some, None, Ok, Err, refl}
-use Rattle.std.specs.Prelude.{Result, codes}
+use Rattle.std.proofs.Common.{◌≡◌, true, false, [], ◌∷◌, map, Some, None, refl}
+use Rattle.std.specs.Prelude.{codes}
 use Rattle.input_defs.specs.Words.{made_of, with_word, request_from, request}
 use Rattle.std.specs.Prelude.{is_none}
 use Rattle.std.specs.List.{list_all}
 use Rattle.input_defs.specs.declared.Kind.TheVariants.{Tri, Quad, Tet, Hex}
-use Rattle.input_defs.specs.Words.{Request, File, Made}
+use Rattle.input_defs.specs.Words.{File, Made}
 
 refused_words : list_all (λ words. is_none (request words))
     ([]

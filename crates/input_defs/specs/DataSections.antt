@@ -1,5 +1,5 @@
 -- The body of a section NodeData or ElementData, after the MSH format 2.2 of the Gmsh manual.
-use Rattle.std.specs.Prelude.{ℕ, ◌-◌, Bool, ◌||◌, ◌==◌, nat_le, if◌then◌else◌, List, [], ◌∷◌, get_or, ℤ, pos, negsuc, Option, ok_or, Result, Ok, Err}
+use Rattle.std.specs.Prelude.{ℕ, ◌-◌, Bool, ◌||◌, ◌==◌, nat_le, List, [], get_or, ℤ, pos, negsuc, ok_or, Result, Ok, Err}
 use Rattle.mesh_defs.specs.declared.Place.{Place}
 use Rattle.mesh_defs.specs.Mesh.{Row, Section}
 use Rattle.scan_defs.specs.declared.NumberFault.{NumberFault}

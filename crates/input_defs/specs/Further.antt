@@ -1,5 +1,5 @@
 -- Further lines of the text, and what stands further in a point's line: names, fields, label values and data.
-use Rattle.std.specs.Prelude.{ℕ, ◌+◌, ◌*◌, ◌/◌, Bool, true, false, ◌&&◌, ◌==◌, if◌then◌else◌, List, [], ◌∷◌, ◌++◌, length, map, filter, fold, flat_map, sum_by, get_or, decimal, codes, ℤ, int_le, int_lt, Option, Some, None}
+use Rattle.std.specs.Prelude.{ℕ, ◌+◌, ◌*◌, ◌/◌, Bool, ◌==◌, if◌then◌else◌, List, [], ◌∷◌, ◌++◌, length, map, filter, fold, flat_map, sum_by, get_or, decimal, codes, ℤ, int_le, int_lt, Option, Some, None}
 use Rattle.std.specs.Fmt.{signed_decimal}
 use Rattle.std.specs.List.{enumerate_from, join_with_byte}
 use Rattle.mesh_defs.specs.declared.Place.{Place}
@@ -10,7 +10,7 @@ use Rattle.mesh_defs.specs.Mesh.{Mesh, Cell, Mark, Name, Section, placed_cells}
 use Rattle.mesh_defs.specs.Points.{Point, Sight, same_point, point_of, contains}
 use Rattle.mesh_defs.specs.Diagram.{cone}
 use Rattle.text_defs.specs.Numbers.{fixed_text}
-use Rattle.text_defs.specs.Text.{Rank, alone, number_of, tag, tail_text, line, mesh_line, ranks_line, step_line, rank_text, total_text, end_line}
+use Rattle.text_defs.specs.Text.{alone, number_of, tag, tail_text, line, mesh_line, ranks_line, step_line, rank_text, total_text, end_line}
 use Rattle.input_defs.specs.Meshes.{values_of}
 use Rattle.input_defs.specs.Plans.{DofsLine}
 

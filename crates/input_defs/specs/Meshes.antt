@@ -1,5 +1,5 @@
 -- The mesh that the content of a right file stands for, or why it stands for none.
-use Rattle.std.specs.Prelude.{ℕ, ◌+◌, ◌-◌, max, Bool, false, not, ◌&&◌, ◌==◌, nat_lt, nat_le, if◌then◌else◌, List, [], ◌∷◌, length, map, filter, filter_map, find, fold, count_by, position, reverse, ℤ, pos, negsuc, Option, Some, None, option_map, option_and_then, is_none, unwrap_or, Result, Ok, Err}
+use Rattle.std.specs.Prelude.{ℕ, ◌-◌, max, Bool, false, not, ◌&&◌, ◌==◌, nat_lt, if◌then◌else◌, List, [], ◌∷◌, length, map, filter, filter_map, find, fold, position, reverse, ℤ, pos, negsuc, Option, option_map, option_and_then, is_none, unwrap_or, Result, Err}
 use Rattle.std.specs.List.{list_any, position_or_len}
 use Rattle.mesh_defs.specs.declared.Poly.{Poly}
 use Rattle.mesh_defs.specs.declared.Poly.TheVariants.{Vertex}

@@ -1,10 +1,9 @@
 -- Refusals: the first cause that stands, of words, plan bytes and mesh bytes, with its status and its line.
-use Rattle.std.specs.Prelude.{ℕ, ◌-◌, ◌/◌, ◌%◌, Bool, true, false, nat_lt, if◌then◌else◌, List, [], ◌∷◌, ◌++◌, length, codes, decimal, Option, Some, None, ok_or, Result, Ok, Err}
+use Rattle.std.specs.Prelude.{ℕ, ◌-◌, ◌/◌, ◌%◌, Bool, nat_lt, if◌then◌else◌, List, [], ◌++◌, length, codes, decimal, Option, Some, None, ok_or, Result, Ok, Err}
 use Rattle.std.specs.Result.{result_err}
 use Rattle.mesh_defs.specs.Mesh.{Mesh}
 use Rattle.mesh_defs.specs.Diagram.{twist_key}
 use Rattle.text_defs.specs.Text.{line}
-use Rattle.text_defs.specs.Content.{Content}
 use Rattle.text_defs.specs.Refusals.{most_bytes, words_refused, read_refused, too_long_refused}
 use Rattle.input_defs.specs.declared.What.{What}
 use Rattle.input_defs.specs.declared.What.TheVariants as what

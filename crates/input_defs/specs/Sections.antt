@@ -1,5 +1,5 @@
 -- The bodies of the sections MeshFormat, PhysicalNames, Nodes and Elements, after the MSH format 2.2 of the Gmsh manual.
-use Rattle.std.specs.Prelude.{ℕ, zero, suc, ◌-◌, Bool, false, not, ◌==◌, nat_le, if◌then◌else◌, List, [], ◌∷◌, map, get_or, find, ℤ, pos, negsuc, Option, option_map, is_some, unwrap_or, Result, Ok, Err}
+use Rattle.std.specs.Prelude.{ℕ, zero, suc, Bool, false, not, ◌==◌, nat_le, if◌then◌else◌, List, [], ◌∷◌, get_or, find, ℤ, pos, negsuc, Option, option_map, is_some, unwrap_or, Err}
 use Rattle.std.specs.List.{list_any}
 use Rattle.mesh_defs.specs.declared.Poly.{Poly}
 use Rattle.mesh_defs.specs.declared.Poly.TheVariants.{Vertex, Segment, Triangle, Quad, Tet, Hex}
@@ -14,7 +14,7 @@ use Rattle.input_defs.specs.declared.What.TheVariants as what
 use Rattle.input_defs.specs.declared.MshFault.{MshFault}
 use Rattle.input_defs.specs.declared.MshFault.TheVariants.{Version, Binary, BadNumber, BadName, RepeatedNodeNumber, ElementType, UnknownNode, RepeatedNode, OutOfRange, TooMany}
 use Rattle.input_defs.specs.Causes.{ok_where}
-use Rattle.input_defs.specs.Bodies.{Lexeme, Faults, Reader, give, ◌>>=◌, many, tested, uint, int, fixed, quoted}
+use Rattle.input_defs.specs.Bodies.{Faults, Reader, give, ◌>>=◌, many, tested, uint, int, fixed, quoted}
 
 abbrev pub number_fault : NumberFault → ℕ → MshFault
 number_fault numbers.NotNumber line = BadNumber line

@@ -1,13 +1,12 @@
 -- The elements that are not merged: each is the first one at its place.
-use Rattle.std.proofs.Common.{◌≡◌, ℕ, Bool, true, false, cond, not, ◌||◌, ◌&&◌, ◌==◌, List, [], ◌∷◌, Option, Some, None, Ok, Err, inl, inr, refl, sym, ap, ap₂, ◌∙◌, subst, true≢false}
-use Rattle.std.specs.Prelude.{find, filter, nat_lt, map, length}
+use Rattle.std.proofs.Common.{◌≡◌, ℕ, Bool, true, false, cond, not, ◌&&◌, ◌==◌, List, [], ◌∷◌, Some, Ok, Err, inl, inr, refl, sym, ap₂, ◌∙◌, true≢false}
+use Rattle.std.specs.Prelude.{find, filter, nat_lt, length}
 use Rattle.std.specs.List.{list_any, AllByRecursion}
 use Rattle.std.specs.Cmp.Lexicographic.{same_text}
-use Rattle.std.proofs.lemmas.Bool.{or_parts, or_left, and_parts, eqb-true, cond-true, cond-false, eq-eqb}
+use Rattle.std.proofs.lemmas.Bool.{or_parts, and_parts, eqb-true, cond-true, cond-false, eq-eqb}
 use Rattle.mesh_defs.specs.Lists.{sorted, same_list}
 use Rattle.mesh_defs.specs.Mesh.{Mesh}
 use Rattle.text_defs.specs.Content.{Element, Content}
-use Rattle.input_defs.specs.declared.MeshFault.{MeshFault}
 use Rattle.input_defs.specs.declared.MeshFault.TheVariants.{NoCells, TooManyCells}
 use Rattle.input_defs.specs.Causes.{unless}
 use Rattle.input_defs.specs.Meshes.{dim, same_nodes, same_place, kept_behind, kept, is_top, greatest_dim, cell_elements, mesh_of, twist, accepted}
@@ -67,9 +66,11 @@ kept-first earlier (x ∷ xs) = go (list_any (same_place x) earlier) refl (kept-
         → AllByRecursion (λ e. find (same_place e) xs ≡ Some e) (kept_behind (x ∷ earlier) xs) → AllByRecursion (λ e. list_any (same_place e) (x ∷ earlier) ≡ false) (kept_behind (x ∷ earlier) xs)
         → AllByRecursion (λ e. find (same_place e) (x ∷ xs) ≡ Some e) (cond b (kept_behind earlier xs) (x ∷ kept_behind (x ∷ earlier) xs))
     go true h r f s g = all_both (λ e. find (same_place e) xs ≡ Some e) (λ e. list_any (same_place e) earlier ≡ false) (λ e. find (same_place e) (x ∷ xs) ≡ Some e) (λ e a fresh. past e (merged h e fresh) a) (kept_behind earlier xs) r f
-    go false h r f s g = (cond-true (same_place x x) (Some x) (find (same_place x) xs) (same_place-refl x),
-        all_both (λ e. find (same_place e) xs ≡ Some e) (λ e. list_any (same_place e) (x ∷ earlier) ≡ false) (λ e. find (same_place e) (x ∷ xs) ≡ Some e)
-        (λ e a fresh. past e (or_parts (same_place e x) (list_any (same_place e) earlier) fresh).0 a) (kept_behind (x ∷ earlier) xs) s g)
+    go false h r f s g = (
+      cond-true (same_place x x) (Some x) (find (same_place x) xs) (same_place-refl x),
+      all_both (λ e. find (same_place e) xs ≡ Some e) (λ e. list_any (same_place e) (x ∷ earlier) ≡ false) (λ e. find (same_place e) (x ∷ xs) ≡ Some e)
+          (λ e a fresh. past e (or_parts (same_place e x) (list_any (same_place e) earlier) fresh).0 a) (kept_behind (x ∷ earlier) xs) s g,
+    )
 
 -- ---- those that pass a test
 

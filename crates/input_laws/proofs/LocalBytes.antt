@@ -1,24 +1,23 @@
 -- Two files that agree up to the end of a line have the same fault, where one of them has its first fault up to there.
-use Rattle.std.proofs.Common.{◌≡◌, ℕ, ◌+◌, ◌<◌, ◌≤◌, Bool, true, false, cond, not, List, [], ◌∷◌, ◌++◌, map, length, take, drop, Option, Some, None, Ok, Err, refl, sym, ap, ap₂, ◌∙◌, subst, arith, length-append}
-use Rattle.std.specs.Prelude.{Result, flat_map, count_by}
+use Rattle.std.proofs.Common.{◌≡◌, ℕ, ◌+◌, ◌<◌, ◌≤◌, Bool, true, false, cond, List, [], ◌∷◌, ◌++◌, map, length, take, drop, Err, refl, sym, ap, ap₂, ◌∙◌, subst, arith, length-append}
+use Rattle.std.specs.Prelude.{flat_map, count_by}
 use Rattle.std.specs.List.{AllByRecursion}
 use Rattle.std.proofs.lemmas.Grind.{flat_map-append}
 use Rattle.std.proofs.lemmas.List.{map-append, take-append-drop, take-append-le, length-take}
 use Rattle.std.proofs.lemmas.List.Sums.{sum_by-cons}
 use Rattle.std.proofs.Math.Seq.{take-length}
 use Rattle.text_defs.specs.Rows.{is_newline, parts, onto_first, lines_of}
-use Rattle.text_defs.specs.Content.{Content}
 use Rattle.scan_defs.specs.declared.Token.{Token}
 use Rattle.scan_defs.specs.Lines.{Line, lines_at, line_number, lines_from, is_indent}
-use Rattle.scan_defs.specs.Items.{Item, Header, Word, Spot, text_of, items_on, items_of, ahead, items, body}
+use Rattle.scan_defs.specs.Items.{Item, Header, Word, text_of, items_on, items_of, ahead, items, body}
 use Rattle.input_defs.specs.declared.MshFault.{MshFault}
 use Rattle.input_defs.specs.Bodies.{Lexeme, lexeme_of}
-use Rattle.input_defs.specs.Files.{Block, blocks_of, Parts, nothing, Opening, said, content}
+use Rattle.input_defs.specs.Files.{Block, blocks_of, nothing, Opening, said, content}
 use Rattle.input_laws.specs.FaultLines.{line_of}
 use Rattle.input_laws.proofs.Local.{Beyond, Upto}
 use Rattle.input_laws.proofs.LocalFiles.{BeyondBlock, AllBeyond, block_of, Rests, said-beyond, said-before}
 use Rattle.input_laws.proofs.LocalLines.{Stands, SaysSame, token_of, items_on-same, items_on-late, file-stands, lines-apart, numbers-low, numbers-late}
-use Rattle.mesh_laws.proofs.Places.{all_map, all_both, all_weaker, all_flat_map, all_append_first}
+use Rattle.mesh_laws.proofs.Places.{all_both, all_weaker, all_flat_map, all_append_first}
 
 -- ---- bodies
 
@@ -234,8 +233,12 @@ fault-local a b e l fault low short agree = go (has_header is) refl
         ∙ (ap (said (line_number b (length b)) Opening nothing) c.is_second
         ∙ said-before l (line_number a (length a)) (line_number b (length b)) Opening nothing c.before c.name c.line c.low c.late_first c.late_second c.rest_first c.rest_second e rests low
         (ap (said (line_number a (length a)) Opening nothing) (sym c.is_first) ∙ said_a))
-    go false h = absurd (omega (arith, low, said-beyond l (line_number a (length a)) Opening nothing (blocks_of a first.later) e less (blocks-late a l first.later first.late)
-        (ap (said (line_number a (length a)) Opening nothing) (sym (blocks-open a is first.later h)) ∙ said_a)))
+    go false h = absurd (omega (
+      arith,
+      low,
+      said-beyond l (line_number a (length a)) Opening nothing (blocks_of a first.later) e less (blocks-late a l first.later first.late)
+          (ap (said (line_number a (length a)) Opening nothing) (sym (blocks-open a is first.later h)) ∙ said_a),
+    ))
 
 -- an LF behind a file adds an empty line
 lines-longer : (bytes : List ℕ) → parts is_newline (bytes ++ 10 ∷ []) ≡ parts is_newline bytes ++ [] ∷ []

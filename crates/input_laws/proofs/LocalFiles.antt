@@ -1,23 +1,19 @@
 -- What the blocks of a file say up to a line does not hang on what stands behind that line.
-use Rattle.std.proofs.Common.{◌≡◌, ℕ, ◌<◌, ◌≤◌, Bool, true, false, cond, not, ◌&&◌, ◌||◌, ◌==◌, List, [], ◌∷◌, ◌++◌, Option, Some, None, Ok, Err, refl, sym, ap, ap₂, ◌∙◌, subst, arith}
-use Rattle.std.specs.Prelude.{Result, find, option_map, take, length, codes, is_none, is_some, nat_le}
+use Rattle.std.proofs.Common.{◌≡◌, ℕ, ◌<◌, ◌≤◌, Bool, true, false, cond, not, List, [], ◌∷◌, ◌++◌, Option, Some, None, Ok, Err, refl, sym, ap, ap₂, ◌∙◌, subst, arith}
+use Rattle.std.specs.Prelude.{Result, find, option_map, is_none}
 use Rattle.std.specs.List.{AllByRecursion}
-use Rattle.std.proofs.lemmas.Bool.{cond-true}
 use Rattle.mesh_defs.specs.Lists.{same_list}
-use Rattle.mesh_defs.specs.declared.Place.{Place}
 use Rattle.mesh_defs.specs.declared.Place.TheVariants as place
 use Rattle.text_defs.specs.Content.{Content}
-use Rattle.mesh_defs.specs.Mesh.{Section}
-use Rattle.input_defs.specs.declared.What.TheVariants as what
 use Rattle.input_defs.specs.declared.DataFault.{DataFault}
 use Rattle.input_defs.specs.declared.DataFault.TheVariants as data_fault
 use Rattle.input_defs.specs.declared.MshFault.{MshFault}
-use Rattle.input_defs.specs.declared.MshFault.TheVariants.{NotMsh, Header, BadNumber, BadCount, BadName, Unclosed, RepeatedSection, MissingSection, Components, UnknownNumber, OutOfRange, TooMany, NoMemory}
+use Rattle.input_defs.specs.declared.MshFault.TheVariants.{NotMsh, Header, BadNumber, BadCount, BadName, Unclosed, MissingSection, Components, UnknownNumber, OutOfRange}
 use Rattle.input_defs.specs.Causes.{◌>>=◌, map_ok, first_cause, unless}
 use Rattle.input_defs.specs.Bodies.{Lexeme, whole}
 use Rattle.input_defs.specs.Sections.{faults_of, format, names, nodes, elements}
 use Rattle.input_defs.specs.DataSections.{faults_at, section, section_of}
-use Rattle.input_defs.specs.Files.{Block, Known, Format, Names, Nodes, Elements, Data, known, closing, closes, Parts, is_on_elements, causes, misplaced, unfinished, of_data, numbers_on, with_section, ending, cut_short, Due, Opening, Closing, Skipping, is_wrong_header, begun, step, content_of, finished, said}
+use Rattle.input_defs.specs.Files.{Block, Known, Format, Names, Nodes, Elements, Data, known, closing, closes, Parts, causes, misplaced, unfinished, of_data, numbers_on, with_section, ending, cut_short, Due, Opening, Closing, Skipping, is_wrong_header, begun, step, content_of, finished, said}
 use Rattle.input_laws.specs.FaultLines.{line_of, data_line_of}
 use Rattle.input_laws.proofs.Local.{Beyond, Upto, SameButEnd, whole-beyond, whole-before}
 use Rattle.input_laws.proofs.LocalSections.{format-local, names-local, nodes-local, elements-local, section-local, msh-tell, data-tell}

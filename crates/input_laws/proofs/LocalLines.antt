@@ -1,10 +1,9 @@
 -- What stands on the lines of a file hangs on these lines alone.
-use Rattle.std.proofs.Common.{◌≡◌, ◌⊎◌, ℕ, zero, suc, ◌+◌, ◌-◌, ◌<◌, ◌≤◌, Bool, true, false, cond, not, ◌&&◌, ◌==◌, nat_le, List, [], ◌∷◌, ◌++◌, map, length, take, drop, Option, Some, None, Ok, Err, inl, inr, ⊎_elim, refl, sym, ap, ap₂, ◌∙◌, subst, arith, append_assoc, append-nil, length-append, length-drop}
-use Rattle.std.specs.Prelude.{option_map, flat_map, slice_range}
-use Rattle.std.specs.List.{AllByRecursion, before_first, position_or_len, prefix_len, suffix_len}
+use Rattle.std.proofs.Common.{◌≡◌, ◌⊎◌, ℕ, suc, ◌+◌, ◌-◌, ◌<◌, ◌≤◌, Bool, true, false, cond, not, List, [], ◌∷◌, ◌++◌, length, take, drop, Option, Some, None, inl, inr, ⊎_elim, refl, sym, ap, ap₂, ◌∙◌, arith, append_assoc, append-nil, length-append, length-drop}
+use Rattle.std.specs.Prelude.{option_map, slice_range}
+use Rattle.std.specs.List.{AllByRecursion, before_first, position_or_len}
 use Rattle.std.proofs.lemmas.Bool.{and_parts, leb-true, eqb-true, cases_lt}
 use Rattle.std.proofs.lemmas.List.{drop-append-le, take-append-le, length-take}
-use Rattle.std.proofs.lemmas.List.Sums.{prefix_len-le-length, suffix_len-le-length}
 use Rattle.std.proofs.Math.Seq.{drop-append-add}
 use Rattle.text_defs.specs.Rows.{is_blank, is_newline, parts, onto_first, lines_of, is_some_bytes}
 use Rattle.scan_defs.specs.declared.Token.{Token}
@@ -12,7 +11,7 @@ use Rattle.scan_defs.specs.Lines.{Line, lines_at, rest_of_line, front, back}
 use Rattle.scan_defs.specs.Items.{Item, Header, Word, text_of, is_header, name_of, tokens_at, tokens_on, words_on, items_on}
 use Rattle.scan_defs.specs.Quotes.{is_quoted, quoted_on, line_from}
 use Rattle.input_defs.specs.Bodies.{Lexeme, lexeme_of}
-use Rattle.mesh_laws.proofs.Places.{all_map, all_append, all_weaker}
+use Rattle.mesh_laws.proofs.Places.{all_map, all_weaker}
 
 -- a front is not longer than the list
 length_take : (n : ℕ) (xs : List ℕ) → length (take n xs) ≤ length xs
@@ -42,7 +41,7 @@ slice-in bytes line s i j within =
     ap₂ (λ k (bs : List ℕ). take k bs) same (drop-in bytes line s i) ∙ ⊎_elim
     (λ (past : length line.text < i). let none : j - i ≡ 0 = omega (arith, past, within) in ap (λ k. take k (drop i (line.text ++ s.rest))) none ∙ sym (ap (λ k. take k (drop i line.text)) none))
     (λ (low : i ≤ length line.text). ap (λ (bs : List ℕ). take (j - i) bs) (drop-append-le i line.text s.rest low)
-        ∙ take-append-le (j - i) (drop i line.text) s.rest (omega (arith, length-drop i line.text, within)))
+    ∙ take-append-le (j - i) (drop i line.text) s.rest (omega (arith, length-drop i line.text, within)))
     (cases_lt (length line.text) i)
 
 -- the rest of a line ends where the line ends
@@ -234,10 +233,12 @@ lines-stand : (bytes before : List ℕ) (start number : ℕ) (texts : List (List
 unfolding joined Ending
 lines-stand bytes before start number [] whole place = tt
 lines-stand bytes before start number (text ∷ []) whole place = (record { before = before; rest = []; whole = whole ∙ ap (λ xs. before ++ xs) (sym (append-nil text)); place = place; ends = inl refl }, tt)
-lines-stand bytes before start number (text ∷ next ∷ texts) whole place = (record { before = before; rest = 10 ∷ joined (next ∷ texts); whole = whole; place = place; ends = inr (joined (next ∷ texts), refl) },
-    lines-stand bytes (before ++ (text ++ 10 ∷ [])) (start + length text + 1) (number + 1) (next ∷ texts)
-    (whole ∙ sym (append_assoc before (text ++ 10 ∷ []) (joined (next ∷ texts)) ∙ ap (λ xs. before ++ xs) (append_assoc text (10 ∷ []) (joined (next ∷ texts)))))
-    (omega (arith, length-append before (text ++ 10 ∷ []), length-append text (10 ∷ []), place)))
+lines-stand bytes before start number (text ∷ next ∷ texts) whole place = (
+  record { before = before; rest = 10 ∷ joined (next ∷ texts); whole = whole; place = place; ends = inr (joined (next ∷ texts), refl) },
+  lines-stand bytes (before ++ (text ++ 10 ∷ [])) (start + length text + 1) (number + 1) (next ∷ texts)
+      (whole ∙ sym (append_assoc before (text ++ 10 ∷ []) (joined (next ∷ texts)) ∙ ap (λ xs. before ++ xs) (append_assoc text (10 ∷ []) (joined (next ∷ texts)))))
+      (omega (arith, length-append before (text ++ 10 ∷ []), length-append text (10 ∷ []), place)),
+)
 
 pub file-stands : (bytes : List ℕ) → AllByRecursion (Stands bytes) (lines_at 0 1 (lines_of bytes))
 unfolding lines_of

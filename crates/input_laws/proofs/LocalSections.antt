@@ -1,12 +1,10 @@
 -- The bodies of all sections are read locally.
-use Rattle.std.proofs.Common.{◌≡◌, ℕ, zero, suc, ◌-◌, Bool, true, false, cond, not, ◌==◌, nat_le, List, [], ◌∷◌, Option, Some, None, Ok, Err, ℤ, pos, negsuc, refl, sym, ap, ◌∙◌}
+use Rattle.std.proofs.Common.{◌≡◌, ℕ, zero, suc, ◌-◌, Bool, true, false, cond, not, ◌==◌, nat_le, List, [], ◌∷◌, Ok, Err, ℤ, pos, negsuc, refl, sym, ap, ◌∙◌}
 use Rattle.std.specs.Prelude.{Result, is_some, ok_or}
 use Rattle.scan_defs.specs.declared.NumberFault.{NumberFault}
 use Rattle.scan_defs.specs.declared.NumberFault.TheVariants as numbers
 use Rattle.scan_defs.specs.Numbers.{uint_of, int_of, fixed_of, decimal_of}
 use Rattle.mesh_defs.specs.declared.Place.{Place}
-use Rattle.mesh_defs.specs.Mesh.{Name, Row, Section}
-use Rattle.text_defs.specs.Content.{Node, Element}
 use Rattle.input_defs.specs.declared.What.{What}
 use Rattle.input_defs.specs.declared.What.TheVariants as what
 use Rattle.input_defs.specs.declared.DataFault.{DataFault}
@@ -14,8 +12,8 @@ use Rattle.input_defs.specs.declared.DataFault.TheVariants as data_fault
 use Rattle.input_defs.specs.declared.MshFault.{MshFault}
 use Rattle.input_defs.specs.declared.MshFault.TheVariants.{Version, Binary, RepeatedNodeNumber, ElementType, UnknownNode, RepeatedNode, OutOfRange, TooMany}
 use Rattle.input_defs.specs.Causes.{ok_where}
-use Rattle.input_defs.specs.Bodies.{Lexeme, Faults, Reader, give, ◌>>=◌, many, number, tested, uint, int, fixed, quoted}
-use Rattle.input_defs.specs.Sections.{faults_of, number_fault, has, count, is_version, format, name, names, fresh_number, node, nodes_behind, nodes, poly_of_type, corners_of_type, corner, corners_behind, element, elements}
+use Rattle.input_defs.specs.Bodies.{number, tested, int, fixed, quoted}
+use Rattle.input_defs.specs.Sections.{faults_of, number_fault, has, count, is_version, format, name, names, node, nodes_behind, nodes, poly_of_type, corners_of_type, corners_behind, element, elements}
 use Rattle.input_defs.specs.DataSections.{number_fault as data_number_fault, faults_at, real, is_comps, comps_on, rows_on, row, section}
 use Rattle.input_laws.specs.FaultLines.{line_of, data_line_of}
 use Rattle.input_laws.proofs.Local.{TellLines, IsLocal, give-local, bind-local, many-local, tested-local, quoted-local}

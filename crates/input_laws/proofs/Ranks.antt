@@ -1,14 +1,13 @@
 -- The rank of a cell is a rank of the plan, where the plan fits.
-use Rattle.std.proofs.Common.{◌≡◌, ◌≢◌, ℕ, zero, suc, ◌+◌, ◌*◌, ◌/◌, ◌%◌, ◌<◌, ◌≤◌, Bool, true, false, cond, not, ◌||◌, ◌&&◌, ◌==◌, nat_le, List, [], ◌∷◌, Option, Some, None, Ok, Err, length, get_or, refl, sym, ap, ◌∙◌, subst, arith, eqb-true}
-use Rattle.std.specs.Prelude.{Result, Contains, nat_lt, flat_map, is_none}
-use Rattle.std.specs.List.{AllByRecursion, list_any}
+use Rattle.std.proofs.Common.{◌≡◌, ℕ, ◌+◌, ◌*◌, ◌<◌, ◌≤◌, Bool, true, false, cond, not, ◌||◌, ◌==◌, List, [], ◌∷◌, Option, Some, None, Ok, length, get_or, refl, ap, ◌∙◌, subst, arith, eqb-true}
+use Rattle.std.specs.Prelude.{Result, Contains, nat_lt, is_none}
+use Rattle.std.specs.List.{AllByRecursion}
 use Rattle.std.proofs.lemmas.Bool.{or_parts, eqb-false, leb-false, not-false}
 use Rattle.std.proofs.Math.Nat.{div-lt_iff_lt-mul, mod-lt, mul-lt-mul_of_pos_right, mul_comm}
 use Rattle.text_defs.specs.Rows.{lines_of, tokens_of}
 use Rattle.input_defs.specs.declared.PlanFault.{PlanFault}
 use Rattle.input_defs.specs.declared.PlanFault.TheVariants.{Word, Ranks}
-use Rattle.input_defs.specs.Causes.{first_cause, unless}
-use Rattle.input_defs.specs.Plans.{Plan, Spread, Block, Stripe, Listed, Move, Part, Layers, Form, IsRanks, IsMove, IsDofs, IsShow, Before, at_first, both, form_of, with_form, with_line, plan_with, plan_from, plan_of, rank_by, ranks_above, misfits, misfit}
+use Rattle.input_defs.specs.Plans.{Plan, Spread, Block, Stripe, Listed, Part, Layers, Form, IsRanks, IsMove, IsDofs, IsShow, Before, at_first, both, form_of, with_form, with_line, plan_with, plan_from, plan_of, rank_by, ranks_above, misfits, misfit}
 use Rattle.mesh_laws.proofs.Places.{all_at}
 use Rattle.input_laws.proofs.Causes.{unless-ok, first_cause-none, all_parts, all_contained, bind-ok}
 
