@@ -64,18 +64,15 @@ nothing = record { format = false; names = None; nodes = None; elements = None; 
 
 -- ---- where a section may stand
 
-abbrev pub is_on_elements : Place → Bool
-is_on_elements place.Node = false
-is_on_elements place.Element = true
-
 -- why a section may not begin on a line, the causes in their order
 abbrev pub causes : Parts → ℕ → Known → List (Bool × MshFault)
 causes parts line Format = (parts.format, RepeatedSection line) ∷ []
 causes parts line Names = (not parts.format, NotMsh line) ∷ (is_some parts.names, RepeatedSection line) ∷ []
 causes parts line Nodes = (not parts.format, NotMsh line) ∷ (is_some parts.nodes, RepeatedSection line) ∷ []
 causes parts line Elements = (not parts.format, NotMsh line) ∷ (is_none parts.nodes, MissingSection line true) ∷ (is_some parts.elements, RepeatedSection line) ∷ []
-causes parts line (Data on) = (not parts.format, NotMsh line) ∷ (is_none parts.nodes, MissingSection line true)
-    ∷ (is_on_elements on && is_none parts.elements, MissingSection line false) ∷ (nat_le 16 (length parts.fields), TooMany line what.Fields) ∷ []
+causes parts line (Data place.Node) = (not parts.format, NotMsh line) ∷ (is_none parts.nodes, MissingSection line true) ∷ (nat_le 16 (length parts.fields), TooMany line what.Fields) ∷ []
+causes parts line (Data place.Element) = (not parts.format, NotMsh line) ∷ (is_none parts.nodes, MissingSection line true) ∷ (is_none parts.elements, MissingSection line false)
+    ∷ (nat_le 16 (length parts.fields), TooMany line what.Fields) ∷ []
 
 unfoldable pub misplaced : Parts → ℕ → Known → Option MshFault
 misplaced parts line k = first_cause (causes parts line k)

@@ -56,13 +56,10 @@ labels_text m p = flat_map (λ v. label_text m.dim p.dim ++ signed_decimal v) (l
 
 -- ---- data
 
--- the values that a section has for a point
-abbrev pub data_at : Mesh → Sight → Section → Option (List ℤ)
-data_at m s section = data_on section.on
-  where
-    data_on : Place → Option (List ℤ)
-    data_on place.Node = if dim_of s.poly == 0 then values_of section s.key else None
-    data_on place.Element = if dim_of s.poly == m.dim then values_of section (s.key / 64) else None
+-- the values that a section of vertices or of cells has for a point
+abbrev pub data_at : Mesh → Sight → Section → Place → Option (List ℤ)
+data_at m s section place.Node = if dim_of s.poly == 0 then values_of section s.key else None
+data_at m s section place.Element = if dim_of s.poly == m.dim then values_of section (s.key / 64) else None
 
 -- the words of a `dofs` line at a point of a dimension: word i is i + 1 times the sum of c + 1 over the cells c that have it
 unfoldable pub words_at : Mesh → Point → DofsLine → List ℕ
@@ -78,7 +75,7 @@ values_text i None = []
 values_text i (Some values) = field_text i (map fixed_text values)
 
 unfoldable pub data_text : Mesh → List DofsLine → Sight → List ℕ
-data_text m dofs s = flat_map (λ (f : ℕ × Section). values_text f.0 (data_at m s f.1)) (enumerate_from 0 m.fields)
+data_text m dofs s = flat_map (λ (f : ℕ × Section). values_text f.0 (data_at m s f.1 f.1.on)) (enumerate_from 0 m.fields)
     ++ flat_map (λ (d : ℕ × DofsLine). field_text d.0 (map decimal (words_at m (point_of s) d.1))) (enumerate_from (length m.fields) dofs)
 
 -- ---- the text on one rank, with one part and all points shown

@@ -1,11 +1,22 @@
 -- Generated meshes: grids of squares and cubes, whole or cut into triangles and tetrahedra.
-use Rattle.std.specs.Prelude.{ℕ, ◌+◌, ◌*◌, ◌^◌, Bool, true, false, if◌then◌else◌, List, [], ◌∷◌, map, flat_map, ℤ, pos}
+use Rattle.std.specs.Prelude.{ℕ, ◌+◌, ◌*◌, ◌^◌, ◌==◌, if◌then◌else◌, List, [], ◌∷◌, map, flat_map, ℤ, pos}
 use Rattle.mesh_defs.specs.declared.Poly.{Poly}
 use Rattle.mesh_defs.specs.declared.Poly.TheVariants as poly
+use Rattle.mesh_defs.specs.Tables.{dim_of}
 use Rattle.mesh_defs.specs.Lists.{below, picked}
 use Rattle.mesh_defs.specs.Mesh.{Mesh, Cell}
 use Rattle.input_defs.specs.declared.Kind.{Kind}
 use Rattle.input_defs.specs.declared.Kind.TheVariants.{Tri, Quad, Tet, Hex}
+
+abbrev pub poly_of : Kind → Poly
+poly_of Tri = poly.Triangle
+poly_of Quad = poly.Quad
+poly_of Tet = poly.Tet
+poly_of Hex = poly.Hex
+
+-- in 2D there is one layer of points, and one of squares
+abbrev pub layers : Kind → ℕ → ℕ
+layers kind n = if dim_of (poly_of kind) == 3 then n else 1
 
 -- a point of the grid, or the square or cube at it
 pub record Spot : Type 0 where
@@ -17,22 +28,16 @@ pub record Spot : Type 0 where
 abbrev pub spots : ℕ → ℕ → ℕ → List Spot
 spots nx ny nz = flat_map (λ z. flat_map (λ y. map (λ x. record { x = x; y = y; z = z }) (below nx)) (below ny)) (below nz)
 
-abbrev pub is_solid : Kind → Bool
-is_solid Tri = false
-is_solid Quad = false
-is_solid Tet = true
-is_solid Hex = true
-
 -- the grid points of n squares or cubes each way, with whole coordinates
 unfoldable pub grid_points : Kind → ℕ → List Spot
-grid_points kind n = spots (n + 1) (n + 1) (if is_solid kind then n + 1 else 1)
+grid_points kind n = spots (n + 1) (n + 1) (layers kind (n + 1))
 
 abbrev pub coordinates : Spot → List ℤ
 coordinates p = map (λ c. pos (c * 10 ^ 10)) (p.x ∷ p.y ∷ p.z ∷ [])
 
 -- the squares or cubes
 unfoldable pub grid_cells : Kind → ℕ → List Spot
-grid_cells kind n = spots n n (if is_solid kind then n else 1)
+grid_cells kind n = spots n n (layers kind n)
 
 -- the position of the grid point this far from a spot
 abbrev pub vertex_at : ℕ → Spot → ℕ → ℕ → ℕ → ℕ
@@ -50,25 +55,10 @@ cuts Quad = (0 ∷ 1 ∷ 2 ∷ 3 ∷ []) ∷ []
 cuts Tet = (0 ∷ 1 ∷ 2 ∷ 6 ∷ []) ∷ (0 ∷ 1 ∷ 5 ∷ 6 ∷ []) ∷ (0 ∷ 3 ∷ 2 ∷ 6 ∷ []) ∷ (0 ∷ 3 ∷ 7 ∷ 6 ∷ []) ∷ (0 ∷ 4 ∷ 5 ∷ 6 ∷ []) ∷ (0 ∷ 4 ∷ 7 ∷ 6 ∷ []) ∷ []
 cuts Hex = (0 ∷ 1 ∷ 2 ∷ 3 ∷ 4 ∷ 5 ∷ 6 ∷ 7 ∷ []) ∷ []
 
-abbrev pub poly_of : Kind → Poly
-poly_of Tri = poly.Triangle
-poly_of Quad = poly.Quad
-poly_of Tet = poly.Tet
-poly_of Hex = poly.Hex
-
 unfoldable pub cells_at : Kind → ℕ → Spot → List Cell
 cells_at kind n p = map (λ cut. record { poly = poly_of kind; vertices = picked (corners_at n p) cut }) (cuts kind)
 
 -- the generated mesh of a kind with n squares or cubes each way; it has no marks, names or data
 unfoldable pub made : Kind → ℕ → Mesh
-made kind n = record {
-  dim = if is_solid kind then 3 else 2;
-  at = map coordinates (grid_points kind n);
-  cells = flat_map (cells_at kind n) (grid_cells kind n);
-  marks = [];
-  names = [];
-  fields = [];
-  unused = 0;
-  loose = 0;
-  merged = 0;
-}
+made kind n = record { dim = dim_of (poly_of kind); at = map coordinates (grid_points kind n); cells = flat_map (cells_at kind n) (grid_cells kind n);
+    marks = []; names = []; fields = []; unused = 0; loose = 0; merged = 0 }

@@ -1,5 +1,5 @@
 -- The mesh that the content of a right file stands for, or why it stands for none.
-use Rattle.std.specs.Prelude.{ℕ, ◌-◌, max, Bool, false, not, ◌&&◌, ◌==◌, nat_lt, if◌then◌else◌, List, [], ◌∷◌, length, map, filter, filter_map, find, fold, position, reverse, ℤ, pos, negsuc, Option, option_map, option_and_then, is_none, unwrap_or, Result, Err}
+use Rattle.std.specs.Prelude.{ℕ, ◌-◌, max, Bool, false, not, ◌&&◌, ◌==◌, nat_lt, if◌then◌else◌, List, [], ◌∷◌, length, map, filter, filter_map, find, fold, position, reverse, ℤ, nat_abs, Option, option_map, option_and_then, is_none, unwrap_or, Result, Err}
 use Rattle.std.specs.List.{list_any, position_or_len}
 use Rattle.mesh_defs.specs.declared.Poly.{Poly}
 use Rattle.mesh_defs.specs.declared.Poly.TheVariants.{Vertex}
@@ -76,13 +76,9 @@ point_of_element vertices element = point_on (poly element) (map (vertex_of vert
 abbrev pub is_point : List Cell → Point → Bool
 is_point cells p = list_any (λ cell. contains cell p) cells
 
-abbrev pub is_zero : ℤ → Bool
-is_zero (pos n) = n == 0
-is_zero (negsuc n) = false
-
 -- the label value of an element, merged or not, whose physical tag is not 0, on its point
 abbrev pub is_labelled : Element → Bool
-is_labelled element = not (is_zero element.physical)
+is_labelled element = not (nat_abs element.physical == 0)
 
 abbrev pub mark_of : List Node → Element → Mark
 mark_of vertices element = record { dim = dim element; vertices = map (vertex_of vertices) element.nodes; value = element.physical }
@@ -97,15 +93,9 @@ loose_elements content = filter (λ e. not (is_point (cells_of content) (point_o
 -- ---- data
 
 -- the vertex that a node number names, and the cell on the nodes of the first element of a number
-abbrev pub vertex_named : Content → ℕ → Option ℕ
-vertex_named content number = position (λ (node : Node). node.number == number) (vertex_nodes content)
-
-abbrev pub cell_named : Content → ℕ → Option ℕ
-cell_named content number = option_and_then (λ e. position (same_nodes e) (cell_elements content)) (find (λ (e : Element). e.number == number) content.elements)
-
 abbrev pub place_named : Content → Place → ℕ → Option ℕ
-place_named content place.Node number = vertex_named content number
-place_named content place.Element number = cell_named content number
+place_named content place.Node number = position (λ (node : Node). node.number == number) (vertex_nodes content)
+place_named content place.Element number = option_and_then (λ e. position (same_nodes e) (cell_elements content)) (find (λ (e : Element). e.number == number) content.elements)
 
 -- a row for its vertex or cell; other rows are dropped
 abbrev pub row_of : Content → Place → Row → Option Row

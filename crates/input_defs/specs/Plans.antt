@@ -1,5 +1,5 @@
 -- Plans: how the cells of a mesh are spread over ranks, step by step. A plan is read line by line.
-use Rattle.std.specs.Prelude.{ℕ, ◌+◌, ◌*◌, ◌/◌, ◌%◌, Bool, true, false, not, ◌&&◌, ◌||◌, ◌==◌, nat_lt, nat_le, if◌then◌else◌, List, [], ◌∷◌, ◌++◌, length, get_or, slice_get, find, flat_map, fold, codes, Option, Some, None, option_map, is_none, Result, Ok, Err}
+use Rattle.std.specs.Prelude.{ℕ, ◌+◌, ◌*◌, ◌/◌, ◌%◌, Bool, true, false, not, ◌&&◌, ◌||◌, ◌==◌, nat_lt, nat_le, if◌then◌else◌, List, [], ◌∷◌, ◌++◌, length, map, get_or, slice_get, find, flat_map, fold, codes, Option, Some, None, option_map, is_none, Result, Ok, Err}
 use Rattle.std.specs.List.{list_any, list_all}
 use Rattle.mesh_defs.specs.Lists.{same_list}
 use Rattle.text_defs.specs.Rows.{lines_of, tokens_of}
@@ -43,16 +43,11 @@ pub data Form : Type 0 where
   IsShow : Show → Form
 
 -- one to nine decimal digits
-abbrev pub plan_number : List ℕ → Option ℕ
-plan_number token = if nat_le 1 (length token) && nat_le (length token) 9 && list_all is_digit token then Some (number_of_digits token) else None
-
-abbrev pub cons_some : Option ℕ → Option (List ℕ) → Option (List ℕ)
-cons_some (Some n) (Some ns) = Some (n ∷ ns)
-cons_some _ _ = None
+abbrev pub is_number : List ℕ → Bool
+is_number token = nat_le 1 (length token) && nat_le (length token) 9 && list_all is_digit token
 
 abbrev pub plan_numbers : List (List ℕ) → Option (List ℕ)
-plan_numbers [] = Some []
-plan_numbers (token ∷ tokens) = cons_some (plan_number token) (plan_numbers tokens)
+plan_numbers tokens = if list_all is_number tokens then Some (map number_of_digits tokens) else None
 
 abbrev pub showing : Bool → Bool → Bool → Bool → Bool → Show
 showing points local closure trace windows = record { points = points; local = local; closure = closure; trace = trace; windows = windows; summary = false }
@@ -61,11 +56,9 @@ abbrev pub shows_of : List (List ℕ × Show)
 shows_of = (codes "points", showing true false false false false) ∷ (codes "local", showing false true false false false) ∷ (codes "closure", showing false false true false false)
     ∷ (codes "trace", showing false false false true false) ∷ (codes "windows", showing false false false false true) ∷ []
 
-abbrev pub show_of : List ℕ → Option Form
-show_of token = option_map (λ (row : List ℕ × Show). IsShow row.1) (find (λ row. same_list row.0 token) shows_of)
-
-abbrev pub listed : List (List ℕ) → Option Form
-listed tokens = option_map (λ ranks. IsMove (Part (Listed ranks))) (plan_numbers tokens)
+abbrev pub show_of : List (List ℕ) → Option Form
+show_of (token ∷ []) = option_map (λ (row : List ℕ × Show). IsShow row.1) (find (λ row. same_list row.0 token) shows_of)
+show_of _ = None
 
 -- `part block`, `part stripe`, or `part` with at least one number
 abbrev pub part_of : List (List ℕ) → Option Form
@@ -73,25 +66,26 @@ part_of [] = None
 part_of (token ∷ tokens) =
     if same_list token (codes "block") && is_none (slice_get tokens 0) then Some (IsMove (Part Block))
     else if same_list token (codes "stripe") && is_none (slice_get tokens 0) then Some (IsMove (Part Stripe))
-    else listed (token ∷ tokens)
+    else option_map (λ ranks. IsMove (Part (Listed ranks))) (plan_numbers (token ∷ tokens))
 
 -- `dofs` with a name and four numbers
 abbrev pub dofs_of : List (List ℕ) → Option Form
 dofs_of (name ∷ d0 ∷ d1 ∷ d2 ∷ d3 ∷ []) = option_map (λ ds. IsDofs (record { name = name; dofs = ds })) (plan_numbers (d0 ∷ d1 ∷ d2 ∷ d3 ∷ []))
 dofs_of _ = None
 
-abbrev pub alone : {A : Type 0} → (List ℕ → Option A) → List (List ℕ) → Option A
-alone f (token ∷ []) = f token
-alone f _ = None
+-- one number
+abbrev pub with_number : (ℕ → Form) → List (List ℕ) → Option Form
+with_number form (token ∷ []) = if is_number token then Some (form (number_of_digits token)) else None
+with_number form _ = None
 
 -- the form of a line that begins with this word
 unfoldable pub form_of : List ℕ → List (List ℕ) → Option Form
 form_of word tokens =
-    if same_list word (codes "ranks") then alone (λ token. option_map IsRanks (plan_number token)) tokens
+    if same_list word (codes "ranks") then with_number IsRanks tokens
     else if same_list word (codes "part") then part_of tokens
-    else if same_list word (codes "overlap") then alone (λ token. option_map (λ k. IsMove (Layers k)) (plan_number token)) tokens
+    else if same_list word (codes "overlap") then with_number (λ k. IsMove (Layers k)) tokens
     else if same_list word (codes "dofs") then dofs_of tokens
-    else if same_list word (codes "show") then alone show_of tokens
+    else if same_list word (codes "show") then show_of tokens
     else None
 
 -- ---- what was read up to a line
@@ -112,9 +106,6 @@ is_letter b = (nat_le 65 b && nat_le b 90) || (nat_le 97 b && nat_le b 122) || i
 -- 1 to 32 letters, digits or `_`
 abbrev pub is_name : List ℕ → Bool
 is_name name = nat_le 1 (length name) && nat_le (length name) 32 && list_all is_letter name
-
-abbrev pub is_named : List DofsLine → List ℕ → Bool
-is_named earlier name = list_any (λ (d : DofsLine). same_list d.name name) earlier
 
 abbrev pub both : Show → Show → Show
 both a b = showing (a.points || b.points) (a.local || b.local) (a.closure || b.closure) (a.trace || b.trace) (a.windows || b.windows)
@@ -148,7 +139,7 @@ with_form b line (Some (IsMove (Layers k))) = unless
     (first_cause ((not (has_part b), NoPart line) ∷ (nat_le 32 (length b.moves), Steps line)
     ∷ (nat_lt 4 (layers_with (layers_of b.moves) (Layers k)), Overlap line (layers_with (layers_of b.moves) (Layers k))) ∷ []))
     (with_move b line (Layers k))
-with_form b line (Some (IsDofs d)) = unless (first_cause ((not (is_name d.name) || is_named b.dofs d.name || list_any (λ n. nat_lt 16 n) d.dofs || nat_le 8 (length b.dofs), Dofs line) ∷ [])) (record b { dofs = b.dofs ++ d ∷ [] })
+with_form b line (Some (IsDofs d)) = unless (first_cause ((not (is_name d.name) || list_any (λ (e : DofsLine). same_list e.name d.name) b.dofs || list_any (λ n. nat_lt 16 n) d.dofs || nat_le 8 (length b.dofs), Dofs line) ∷ [])) (record b { dofs = b.dofs ++ d ∷ [] })
 with_form b line (Some (IsShow s)) = Ok (record b { shows = both b.shows s })
 
 -- a line without words, and one whose first word begins with `#`, say nothing

@@ -43,7 +43,8 @@ misplaced-line parts l Format e h = first_cause-line l (causes parts l Format) e
 misplaced-line parts l Names e h = first_cause-line l (causes parts l Names) e (refl, (refl, tt)) h
 misplaced-line parts l Nodes e h = first_cause-line l (causes parts l Nodes) e (refl, (refl, tt)) h
 misplaced-line parts l Elements e h = first_cause-line l (causes parts l Elements) e (refl, (refl, (refl, tt))) h
-misplaced-line parts l (Data on) e h = first_cause-line l (causes parts l (Data on)) e (refl, (refl, (refl, (refl, tt)))) h
+misplaced-line parts l (Data place.Node) e h = first_cause-line l (causes parts l (Data place.Node)) e (refl, (refl, (refl, tt))) h
+misplaced-line parts l (Data place.Element) e h = first_cause-line l (causes parts l (Data place.Element)) e (refl, (refl, (refl, (refl, tt)))) h
 
 unfinished-line : (parts : Parts) (l : ℕ) (e : MshFault) → unfinished parts l ≡ Some e → line_of e ≡ l
 unfolding unfinished AllOn
