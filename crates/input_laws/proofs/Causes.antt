@@ -38,3 +38,7 @@ all_contained P (y ∷ ys) x h (suc k, below, same) = all_contained P ys x h.1 (
 pub bind-ok : {A B E : Type 0} (r : Result A E) (k : A → Result B E) (y : B) → (r >>= k) ≡ Ok y → (x : A) × (r ≡ Ok x) × (k x ≡ Ok y)
 bind-ok (Ok x) k y h = (x, refl, h)
 bind-ok (Err e) k y h = absurd (cc h)
+
+-- the same, by a name
+abbrev pub bind : {A B E : Type 0} → Result A E → (A → Result B E) → Result B E
+bind r k = r >>= k

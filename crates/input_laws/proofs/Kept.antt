@@ -17,7 +17,7 @@ use Rattle.input_laws.proofs.Causes.{unless-ok}
 -- ---- the test of places is an equivalence
 
 -- a list is equal to itself
-same_list-refl : (xs : List ℕ) → same_list xs xs ≡ true
+pub same_list-refl : (xs : List ℕ) → same_list xs xs ≡ true
 same_list-refl [] = refl
 same_list-refl (x ∷ xs) = ap₂ (λ a b. a && b) (eq-eqb x x refl) (same_list-refl xs)
 

@@ -7,3 +7,5 @@ pub mod LocalSections
 pub mod LocalFiles
 pub mod LocalLines
 pub mod LocalBytes
+pub mod Sets
+pub mod RightFiles

@@ -6,8 +6,9 @@
 ghost use Rattle.std.specs.Prelude.{◌≡◌, ◌<◌, ◌≤◌, ℕ, List, [], ◌∷◌, ◌++◌, length, take, Ok, Err, None, Some, Contains, map, find, true};
 ghost use Rattle.std.specs.List.{AllByRecursion};
 ghost use Rattle.mesh_defs.specs.Lists.{sorted};
-ghost use Rattle.mesh_defs.specs.Mesh.{Mesh, Mark};
+ghost use Rattle.mesh_defs.specs.Mesh.{Mesh, Cell, Mark};
 ghost use Rattle.text_defs.specs.Rows.{lines_of};
+ghost use Rattle.text_defs.specs.Triangles.{differ_as_sets};
 ghost use Rattle.text_defs.specs.Content.{Element, Content};
 ghost use Rattle.input_defs.specs.declared.MshFault.{MshFault};
 ghost use Rattle.input_defs.specs.Files.{content};
@@ -33,6 +34,11 @@ pub fn cells_are_first_of_their_sets()
     ensures first { (c : Content) → AllByRecursion (λ (e : Element). find (same_place e) c.elements ≡ Some e) (cell_elements c) }
     ensures dims { (c : Content) (m : Mesh) → accepted c ≡ Ok m → AllByRecursion (λ (e : Element). dim e ≡ m.dim) (cell_elements c) }
     ensures different { (c : Content) → differ_in_place (cell_elements c) ≡ true }
+{}
+
+/// The cells of the mesh of a right file have different sets of vertices.
+pub fn vertex_sets_differ()
+    ensures { (bytes : List ℕ) (c : Content) (m : Mesh) → content bytes ≡ Ok c → accepted c ≡ Ok m → differ_as_sets (map (λ (cell : Cell). cell.vertices) m.cells) ≡ true }
 {}
 
 /// The first fault of a mesh file hangs on the file up to the end of the fault's line alone. For a fault at the end of the
