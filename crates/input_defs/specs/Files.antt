@@ -1,5 +1,5 @@
 -- A whole mesh file: its content, or its first fault. A block is a header line with the tokens up to the next one.
-use Rattle.std.specs.Prelude.{ℕ, Bool, true, false, not, ◌&&◌, ◌||◌, nat_le, if◌then◌else◌, List, [], ◌∷◌, ◌++◌, length, map, take, find, codes, Option, Some, None, option_map, is_some, is_none, unwrap_or, Result, Ok, Err}
+use Rattle.std.specs.Prelude.{ℕ, Bool, true, false, not, ◌||◌, nat_le, if◌then◌else◌, List, [], ◌∷◌, ◌++◌, length, map, take, find, codes, Option, Some, None, option_map, is_some, is_none, unwrap_or, Result, Ok, Err}
 use Rattle.mesh_defs.specs.declared.Place.{Place}
 use Rattle.mesh_defs.specs.declared.Place.TheVariants as place
 use Rattle.mesh_defs.specs.Lists.{same_list}

@@ -1,17 +1,16 @@
 -- Further lines of the text, and what stands further in a point's line: names, fields, label values and data.
-use Rattle.std.specs.Prelude.{ℕ, ◌+◌, ◌*◌, ◌/◌, Bool, ◌==◌, if◌then◌else◌, List, [], ◌∷◌, ◌++◌, length, map, filter, fold, flat_map, sum_by, get_or, decimal, codes, ℤ, int_le, int_lt, Option, Some, None}
+use Rattle.std.specs.Prelude.{ℕ, ◌+◌, ◌==◌, if◌then◌else◌, List, [], ◌∷◌, ◌++◌, length, map, flat_map, get_or, decimal, codes, ℤ, Option, Some, None, option_and_then}
 use Rattle.std.specs.Fmt.{signed_decimal}
 use Rattle.std.specs.List.{enumerate_from, join_with_byte}
 use Rattle.mesh_defs.specs.declared.Place.{Place}
 use Rattle.mesh_defs.specs.declared.Place.TheVariants as place
-use Rattle.mesh_defs.specs.Lists.{below, sorted}
-use Rattle.mesh_defs.specs.Tables.{dim_of}
-use Rattle.mesh_defs.specs.Mesh.{Mesh, Cell, Mark, Name, Section, placed_cells}
-use Rattle.mesh_defs.specs.Points.{Point, Sight, same_point, point_of, contains}
+use Rattle.mesh_defs.specs.Mesh.{Mesh, Name, Section}
+use Rattle.mesh_defs.specs.Points.{Point, Sight, point_of}
 use Rattle.mesh_defs.specs.Diagram.{cone}
 use Rattle.text_defs.specs.Numbers.{fixed_text}
 use Rattle.text_defs.specs.Text.{alone, number_of, tag, tail_text, line, mesh_line, ranks_line, step_line, rank_text, total_text, end_line}
-use Rattle.input_defs.specs.Meshes.{values_of}
+use Rattle.rank_defs.specs.Labels.{label_of, values_at, marks_on}
+use Rattle.rank_defs.specs.Fields.{row_values, number_on, dof_words}
 use Rattle.input_defs.specs.Plans.{DofsLine}
 
 -- ---- lines of the head
@@ -35,17 +34,9 @@ dofs_line (i, d) = line (codes "field " ++ decimal i ++ codes " dofs" ++ in_quot
 
 -- ---- labels
 
--- a value among rising ones, once
-abbrev pub risen : List ℤ → ℤ → List ℤ
-risen [] v = v ∷ []
-risen (w ∷ ws) v = if int_lt v w then v ∷ w ∷ ws else if int_le v w then w ∷ ws else w ∷ risen ws v
-
-abbrev pub is_mark_on : Point → Mark → Bool
-is_mark_on p mark = same_point p (record { dim = mark.dim; vertices = sorted mark.vertices })
-
 -- the label values of a point, rising
 unfoldable pub labels_at : Mesh → Point → List ℤ
-labels_at m p = fold risen [] (map (λ (mark : Mark). mark.value) (filter (is_mark_on p) m.marks))
+labels_at m p = values_at (label_of (map (λ value. (0, value)) (marks_on m p))) 0
 
 -- the label of points of a dimension: Cell Sets, Face Sets, Vertex Sets or Edge Sets
 abbrev pub label_text : ℕ → ℕ → List ℕ
@@ -56,15 +47,9 @@ labels_text m p = flat_map (λ v. label_text m.dim p.dim ++ signed_decimal v) (l
 
 -- ---- data
 
--- the values that a section of vertices or of cells has for a point
-abbrev pub data_at : Mesh → Sight → Section → Place → Option (List ℤ)
-data_at m s section place.Node = if dim_of s.poly == 0 then values_of section s.key else None
-data_at m s section place.Element = if dim_of s.poly == m.dim then values_of section (s.key / 64) else None
-
--- the words of a `dofs` line at a point of a dimension: word i is i + 1 times the sum of c + 1 over the cells c that have it
-unfoldable pub words_at : Mesh → Point → DofsLine → List ℕ
-words_at m p d =
-    map (λ i. (i + 1) * sum_by (λ (c : ℕ × Cell). if contains c.1 p then c.0 + 1 else 0) (placed_cells m)) (below (get_or d.dofs p.dim 0))
+-- the values that a section has for a point
+abbrev pub data_at : Mesh → Sight → Section → Option (List ℤ)
+data_at m s section = option_and_then (row_values section) (number_on m section.on s)
 
 abbrev pub field_text : ℕ → List (List ℕ) → List ℕ
 field_text i [] = []
@@ -75,8 +60,8 @@ values_text i None = []
 values_text i (Some values) = field_text i (map fixed_text values)
 
 unfoldable pub data_text : Mesh → List DofsLine → Sight → List ℕ
-data_text m dofs s = flat_map (λ (f : ℕ × Section). values_text f.0 (data_at m s f.1 f.1.on)) (enumerate_from 0 m.fields)
-    ++ flat_map (λ (d : ℕ × DofsLine). field_text d.0 (map decimal (words_at m (point_of s) d.1))) (enumerate_from (length m.fields) dofs)
+data_text m dofs s = flat_map (λ (f : ℕ × Section). values_text f.0 (data_at m s f.1)) (enumerate_from 0 m.fields)
+    ++ flat_map (λ (d : ℕ × DofsLine). field_text d.0 (map decimal (dof_words m d.1.dofs s))) (enumerate_from (length m.fields) dofs)
 
 -- ---- the text on one rank, with one part and all points shown
 

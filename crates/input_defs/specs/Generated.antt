@@ -60,5 +60,14 @@ cells_at kind n p = map (λ cut. record { poly = poly_of kind; vertices = picked
 
 -- the generated mesh of a kind with n squares or cubes each way; it has no marks, names or data
 unfoldable pub made : Kind → ℕ → Mesh
-made kind n = record { dim = dim_of (poly_of kind); at = map coordinates (grid_points kind n); cells = flat_map (cells_at kind n) (grid_cells kind n);
-    marks = []; names = []; fields = []; unused = 0; loose = 0; merged = 0 }
+made kind n = record {
+  dim = dim_of (poly_of kind);
+  at = map coordinates (grid_points kind n);
+  cells = flat_map (cells_at kind n) (grid_cells kind n);
+  marks = [];
+  names = [];
+  fields = [];
+  unused = 0;
+  loose = 0;
+  merged = 0;
+}

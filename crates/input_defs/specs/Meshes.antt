@@ -1,5 +1,5 @@
 -- The mesh that the content of a right file stands for, or why it stands for none.
-use Rattle.std.specs.Prelude.{ℕ, ◌-◌, max, Bool, false, not, ◌&&◌, ◌==◌, nat_lt, if◌then◌else◌, List, [], ◌∷◌, length, map, filter, filter_map, find, fold, position, reverse, ℤ, nat_abs, Option, option_map, option_and_then, is_none, unwrap_or, Result, Err}
+use Rattle.std.specs.Prelude.{ℕ, ◌-◌, max, Bool, not, ◌&&◌, ◌==◌, nat_lt, if◌then◌else◌, List, [], ◌∷◌, length, map, filter, filter_map, find, fold, position, nat_abs, Option, option_map, option_and_then, is_none, unwrap_or, Result, Err}
 use Rattle.std.specs.List.{list_any, position_or_len}
 use Rattle.mesh_defs.specs.declared.Poly.{Poly}
 use Rattle.mesh_defs.specs.declared.Poly.TheVariants.{Vertex}
@@ -103,10 +103,6 @@ row_of content on row = option_map (λ place. record row { number = place }) (pl
 
 unfoldable pub section_on : Content → Section → Section
 section_on content s = record s { rows = filter_map (row_of content s.on) s.rows }
-
--- the values of a vertex or cell: its last row holds
-unfoldable pub values_of : Section → ℕ → Option (List ℤ)
-values_of s place = option_map (λ (row : Row). row.values) (find (λ (row : Row). row.number == place) (reverse s.rows))
 
 -- ---- the mesh
 

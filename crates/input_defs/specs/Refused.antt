@@ -131,22 +131,28 @@ abbrev pub mesh_asked : (List ℕ → Option (List ℕ)) → Source → Result (
 mesh_asked file (File name) = map_ok mesh_in (short_file name (file name))
 mesh_asked file (Made kind n) = Ok (Ok (made kind n))
 
--- a plan and a mesh, unless the plan does not fit the mesh or the mesh has a twist key
-abbrev pub task_of : Bool → Plan → Mesh → Result Task Refusal
-task_of summary plan mesh = do
-  fits ← or_refuse status.Plan plan_refused (unless (misfit plan (length mesh.cells)) plan)
-  even ← or_refuse status.Mesh twist_refused (unless (twist_key mesh) mesh)
-  Ok (record { mesh = even; plan = fits; summary = summary })
+-- what is to be done, unless the plan does not fit the mesh
+abbrev pub where_fits : Bool → Plan → Mesh → Result Task Refusal
+where_fits summary plan mesh = or_refuse status.Plan plan_refused (unless (misfit plan (length mesh.cells)) (record { mesh = mesh; plan = plan; summary = summary }))
 
--- What words and files ask for, or the first refusal that stands; `file` has the bytes under a name, where it is there.
-unfoldable pub task : List (List ℕ) → (List ℕ → Option (List ℕ)) → Result Task Refusal
-task words file = do
+-- What words and files ask for, or the first refusal that stands but for a twist of the mesh; `file` has the bytes under a
+-- name, where it is there.
+unfoldable pub fitting_task : List (List ℕ) → (List ℕ → Option (List ℕ)) → Result Task Refusal
+fitting_task words file = do
   asked ← or_refuse status.Words (λ refused. refused) (ok_or (request words) words_refused)
   plan_or ← plan_asked file asked.plan
   mesh_or ← mesh_asked file asked.source
   plan ← plan_or
   mesh ← mesh_or
-  task_of asked.summary plan mesh
+  where_fits asked.summary plan mesh
+
+-- unless the mesh has a twist key
+abbrev pub where_even : Task → Result Task Refusal
+where_even t = or_refuse status.Mesh twist_refused (unless (twist_key t.mesh) t)
+
+-- what words and files ask for, or the first refusal that stands
+unfoldable pub task : List (List ℕ) → (List ℕ → Option (List ℕ)) → Result Task Refusal
+task words file = fitting_task words file >>= where_even
 
 -- the refusal, or none
 abbrev pub refusal : List (List ℕ) → (List ℕ → Option (List ℕ)) → Option Refusal
