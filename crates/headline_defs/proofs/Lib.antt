@@ -1,0 +1,5 @@
+pub mod Runs
+pub mod TextRows
+pub mod StripTexts
+pub mod KnownTexts
+pub mod WordTexts

@@ -1,0 +1,7 @@
+pub mod States
+pub mod Rounds
+pub mod Lines
+pub mod StepText
+pub mod Picks
+pub mod Headline
+pub mod Tops

@@ -1,0 +1,77 @@
+-- The two top calls: one whose rounds any fabric runs, and one whose rounds go by picks.
+use Rattle.std.specs.Prelude.{◌≡◌, ℕ, List, [], ◌∷◌, ◌++◌, length, map, take, Option, Some, None, Result, Ok, Err}
+use Rattle.mesh_defs.specs.Lists.{below}
+use Rattle.mesh_defs.specs.Mesh.{Mesh}
+use Rattle.text_defs.specs.Refusals.{words_refused}
+use Rattle.rank_defs.specs.declared.Tag.TheVariants.{Home, Number}
+use Rattle.rank_defs.specs.Rounds.{Round}
+use Rattle.rank_defs.specs.Script.{scripted}
+use Rattle.rank_defs.specs.Home.{home_points, home_words, home_asks, number_asks}
+use Rattle.input_defs.specs.declared.Status.TheVariants.{Words}
+use Rattle.input_defs.specs.Words.{Source, File, Made, Request, request}
+use Rattle.input_defs.specs.Refused.{Task, Refusal, refuse, fitting_task, where_even}
+use Rattle.headline_defs.specs.Picks.{picks_of}
+use Rattle.headline_defs.specs.Rounds.{Due, Keys, Numbers}
+use Rattle.headline_defs.specs.Headline.{Call, Asking, Headline, due_where}
+
+-- ---- over any fabric
+
+-- the names of the files that are asked for: the plan's, then the mesh's
+abbrev pub plan_name : Option (List ℕ) → List (List ℕ)
+plan_name None = []
+plan_name (Some name) = name ∷ []
+
+abbrev pub mesh_name : Source → List (List ℕ)
+mesh_name (File name) = name ∷ []
+mesh_name (Made kind n) = []
+
+abbrev pub names_where : Option Request → List (List ℕ)
+names_where None = []
+names_where (Some r) = plan_name r.plan ++ mesh_name r.source
+
+-- what words ask
+unfoldable pub asking : List (List ℕ) → Asking
+asking words = record { names = names_where (request words); fitting = fitting_task words }
+
+abbrev pub IsJob : Call → Type 0
+IsJob c = Headline (asking c.words) c
+
+-- ---- by picks
+
+-- a round that is due, by picks
+abbrev pub run : Mesh → ℕ → List ℕ → Due → Round
+run m n picks (Keys ranks) = let points = home_points m ranks n in scripted Home (home_words m ranks points) (map (home_asks m ranks points) (below n)) picks
+run m n picks (Numbers ranks) = scripted Number (0 ∷ []) (number_asks m ranks n) picks
+
+-- the rounds of a task, each from the first pick on
+abbrev pub runs : List ℕ → Task → List Round
+runs picks task = map (run task.mesh task.plan.ranks picks) (due_where (where_even task) task)
+
+-- words whose first one is no list of picks are refused
+abbrev pub asking_where : Option (List ℕ) → List (List ℕ) → Asking
+asking_where None words = record { names = []; fitting = λ files. refuse Words words_refused }
+asking_where (Some picks) words = asking words
+
+abbrev pub picks_in : List (List ℕ) → Option (List ℕ)
+picks_in [] = None
+picks_in (word ∷ words) = picks_of word
+
+abbrev pub behind_picks : List (List ℕ) → List (List ℕ)
+behind_picks [] = []
+behind_picks (word ∷ words) = words
+
+-- what the words of a replay ask
+unfoldable pub replay_asking : List (List ℕ) → Asking
+replay_asking words = asking_where (picks_in words) (behind_picks words)
+
+-- the rounds are the first that the picks give
+abbrev pub AreByPicks : Option (List ℕ) → Result Task Refusal → List Round → Type 0
+AreByPicks None result added = added ≡ []
+AreByPicks (Some picks) (Err refusal) added = added ≡ []
+AreByPicks (Some picks) (Ok task) added = added ≡ take (length added) (runs picks task)
+
+-- a replay starts with no kept rounds, and its rounds go by its picks
+pub record IsReplay (c : Call) : Type 0 where
+  pub headline : Headline (replay_asking c.words) c
+  pub no_rounds : c.kept_before ≡ []
+  pub by_picks : AreByPicks (picks_in c.words) ((replay_asking c.words).fitting headline.files) headline.added
