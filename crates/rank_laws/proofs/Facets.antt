@@ -23,7 +23,7 @@ use Rattle.rank_laws.specs.Conditions.{IsFlatOrSolid, IsSoundCell, IsSoundMesh}
 use Rattle.rank_laws.proofs.Lists.{stands, find-cases, find-has}
 use Rattle.rank_laws.proofs.Inverting.{of-images}
 use Rattle.rank_laws.proofs.Strata.{found-any}
-use Rattle.rank_laws.proofs.Found.{IsSeen, shown-in_strata, shown-in_stratum, found-first, one-entry, two-entries, poly-zero, poly-one, poly-two, length-sorted, edge-there, picked-picked}
+use Rattle.rank_laws.proofs.Found.{IsSeen, shown-in_strata, shown-in_stratum, found-first, one-entry, two-entries, poly-zero, poly-one, poly-told, length-sorted, edge-there, picked-picked}
 use Rattle.rank_laws.proofs.Shapes.{HasShape, are_corners, is_pair, is_edge_of, is_side_of, is_face_of, all-pass, edges-are_pairs, sides-are_edges, facets-are_faces, picked-differ, picked-shape, strata-shape, all-of_strata, all-of_cells}
 
 -- ---- facets that are seen
@@ -102,13 +102,13 @@ module _ (m : Mesh) (sound : IsSoundMesh m) where
       go false e t r = ((λ y. absurd (both_ways (q x) e y)), r t)
 
   -- an answer that is not none is some
-  some-answer : {X : Type 0} (o : Option X) → is_none o ≡ false → (x : X) × (o ≡ Some x)
+  pub some-answer : {X : Type 0} (o : Option X) → is_none o ≡ false → (x : X) × (o ≡ Some x)
   some-answer None h = absurd (cc h)
   some-answer (Some x) h = (x, refl)
 
   module _ (accepted : IsAccepted m) where
     -- no cell of a solid mesh sees a face under no orientation
-    untwisted : AllByRecursion (λ (s : Sight). ((m.dim == 3) && (dim_of s.poly == 2)) ≡ true → is_none (seen_under m s.poly s.arrangement) ≡ false) (sights (placed_cells m))
+    pub untwisted : AllByRecursion (λ (s : Sight). ((m.dim == 3) && (dim_of s.poly == 2)) ≡ true → is_none (seen_under m s.poly s.arrangement) ≡ false) (sights (placed_cells m))
     unfolding twist_key
     untwisted = of-chosen (λ (s : Sight). is_none (seen_under m s.poly s.arrangement) ≡ false) (λ s. (m.dim == 3) && (dim_of s.poly == 2)) (sights (placed_cells m))
         (each_fails (λ (s : Sight). is_none (seen_under m s.poly s.arrangement)) faces (⊎_elim (λ (w : (s : Sight) × (find (λ (s : Sight). is_none (seen_under m s.poly s.arrangement)) faces ≡ Some s)). absurd (cc (sym accepted ∙ ap (option_map (λ (s : Sight). s.key)) w.1))) (λ none. none) (find-cases (λ (s : Sight). is_none (seen_under m s.poly s.arrangement)) faces)))
@@ -131,7 +131,7 @@ module _ (m : Mesh) (sound : IsSoundMesh m) where
               point = t;
               turn = turn;
               found = found;
-              same_poly = poly-two t.poly u.poly (sym dims ∙ flat) flat (sym other.corners ∙ sym (length-sorted t.arrangement) ∙ ap length (sym vertices) ∙ length-sorted u.arrangement ∙ shape.corners);
+              same_poly = poly-told t.poly u.poly (sym dims) (sym other.corners ∙ sym (length-sorted t.arrangement) ∙ ap length (sym vertices) ∙ length-sorted u.arrangement ∙ shape.corners);
               arranged = arranged;
               under = under;
             }

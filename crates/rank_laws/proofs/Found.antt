@@ -86,7 +86,7 @@ two-entries (v ∷ []) h = absurd (omega arith)
 two-entries (v ∷ w ∷ []) h = refl
 two-entries (v ∷ w ∷ x ∷ vs) h = absurd (omega arith)
 
--- the polytopes of dimension 0 and 1
+-- the polytope of dimension 0
 pub poly-zero : (p : Poly) → dim_of p ≡ 0 → p ≡ Vertex
 poly-zero Vertex e = refl
 poly-zero Segment e = absurd (omega arith)
@@ -95,6 +95,7 @@ poly-zero Quad e = absurd (omega arith)
 poly-zero Tet e = absurd (omega arith)
 poly-zero Hex e = absurd (omega arith)
 
+-- the polytope of dimension 1
 pub poly-one : (p : Poly) → dim_of p ≡ 1 → p ≡ Segment
 poly-one Vertex e = absurd (omega arith)
 poly-one Segment e = refl
@@ -103,24 +104,22 @@ poly-one Quad e = absurd (omega arith)
 poly-one Tet e = absurd (omega arith)
 poly-one Hex e = absurd (omega arith)
 
--- a polygon is told by its number of corners
-pub poly-two : (p q : Poly) → dim_of p ≡ 2 → dim_of q ≡ 2 → corner_count p ≡ corner_count q → p ≡ q
-poly-two Triangle Triangle d e c = refl
-poly-two Quad Quad d e c = refl
-poly-two Triangle Quad d e c = absurd (omega arith)
-poly-two Quad Triangle d e c = absurd (omega arith)
-poly-two Vertex q d e c = absurd (omega arith)
-poly-two Segment q d e c = absurd (omega arith)
-poly-two Tet q d e c = absurd (omega arith)
-poly-two Hex q d e c = absurd (omega arith)
-poly-two Triangle Vertex d e c = absurd (omega arith)
-poly-two Triangle Segment d e c = absurd (omega arith)
-poly-two Triangle Tet d e c = absurd (omega arith)
-poly-two Triangle Hex d e c = absurd (omega arith)
-poly-two Quad Vertex d e c = absurd (omega arith)
-poly-two Quad Segment d e c = absurd (omega arith)
-poly-two Quad Tet d e c = absurd (omega arith)
-poly-two Quad Hex d e c = absurd (omega arith)
+-- the polytope of a dimension with so many corners
+poly_with : ℕ → ℕ → Poly
+poly_with dim corners = if dim == 0 then Vertex else if dim == 1 then Segment else if dim == 2 then (if corners == 3 then Triangle else Quad) else if corners == 4 then Tet else Hex
+
+-- a polytope is told by its dimension and its number of corners
+told-by : (p : Poly) → poly_with (dim_of p) (corner_count p) ≡ p
+unfolding poly_with
+told-by Vertex = refl
+told-by Segment = refl
+told-by Triangle = refl
+told-by Quad = refl
+told-by Tet = refl
+told-by Hex = refl
+
+pub poly-told : (p q : Poly) → dim_of p ≡ dim_of q → corner_count p ≡ corner_count q → p ≡ q
+poly-told p q d c = sym (told-by p) ∙ ap₂ poly_with d c ∙ told-by q
 
 -- sorting keeps the number of entries
 pub length-inserted : (x : ℕ) (ys : List ℕ) → length (inserted x ys) ≡ suc (length ys)

@@ -13,4 +13,6 @@ pub mod Arranging
 pub mod Forests
 pub mod Inverting
 pub mod SoundRows
-pub mod Closed
+pub mod TurnedEdges
+pub mod Inherited
+pub mod ChartsClosed

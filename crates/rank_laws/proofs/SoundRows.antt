@@ -1,8 +1,13 @@
 -- A test of sound meshes and assignments that computes, what it says, and the meshes of the worked rows.
-use Rattle.std.proofs.Common.{◌≡◌, ℕ, ◌<◌, Bool, true, not, ◌&&◌, ◌||◌, ◌==◌, nat_lt, List, [], ◌∷◌, length, map, get_or, refl, inl, inr, ⊎_elim}
+use Rattle.std.proofs.Common.{◌≡◌, ℕ, ◌<◌, Bool, true, false, not, ◌&&◌, ◌||◌, ◌==◌, nat_lt, List, [], ◌∷◌, length, map, get_or, refl, inl, inr, ⊎_elim}
 use Rattle.std.specs.List.{list_any, list_all}
 use Rattle.std.proofs.lemmas.Bool.{and_parts, eqb-true, eq-eqb, ltb-true, not-true, or_cases, both_ways}
-use Rattle.mesh_defs.specs.Lists.{below}
+use Rattle.std.specs.Prelude.{is_none}
+use Rattle.mesh_defs.specs.Lists.{below, sorted}
+use Rattle.mesh_defs.specs.Orientation.{rotations, reflections, orientations, corners_under, act, relative}
+use Rattle.mesh_defs.specs.Points.{sights_of, first_sight, arrangement}
+use Rattle.mesh_defs.specs.Diagram.{seen_under, twist_key}
+use Rattle.text_defs.specs.Triangles.{differ_as_sets}
 use Rattle.mesh_defs.specs.Tables.{dim_of, corner_count}
 use Rattle.mesh_defs.specs.Mesh.{Mesh, Cell}
 use Rattle.mesh_laws.proofs.Places.{all_weaker}
@@ -44,6 +49,16 @@ sound-mesh m h =
 -- the meshes of the rows are sound, also the one with a twisted face
 sound_meshes : list_all is_sound (two_triangles ∷ two_tetrahedra ∷ two_hexahedra ∷ twisted_hexahedra ∷ three_triangles ∷ around_a_vertex ∷ strip ∷ []) ≡ true
 sound_meshes = refl
+
+-- no two of their cells have the same vertices
+cells_differ : list_all (λ (m : Mesh). differ_as_sets (map (λ (cell : Cell). cell.vertices) m.cells)) (two_triangles ∷ two_tetrahedra ∷ two_hexahedra ∷ twisted_hexahedra ∷ three_triangles ∷ around_a_vertex ∷ strip ∷ []) ≡ true
+unfolding sorted
+cells_differ = refl
+
+-- all but the twisted one are accepted
+accepted_meshes : map (λ m. is_none (twist_key m)) (two_triangles ∷ two_tetrahedra ∷ two_hexahedra ∷ twisted_hexahedra ∷ three_triangles ∷ around_a_vertex ∷ strip ∷ []) ≡ true ∷ true ∷ true ∷ false ∷ true ∷ true ∷ true ∷ []
+unfolding sorted rotations reflections orientations corners_under act relative sights_of first_sight arrangement seen_under twist_key
+accepted_meshes = refl
 
 strip_is_sound : IsSoundMesh strip
 strip_is_sound = sound-mesh strip refl

@@ -1,8 +1,9 @@
 -- Under which conditions the laws hold.
-use Rattle.std.specs.Prelude.{◌≡◌, ◌≢◌, slice_index, ◌⊎◌, ℕ, ◌<◌, Bool, true, ◌==◌, List, length}
+use Rattle.std.specs.Prelude.{◌≡◌, ◌≢◌, slice_index, ◌⊎◌, ℕ, ◌<◌, Bool, true, ◌==◌, List, length, map}
 use Rattle.std.specs.List.{list_any, AllByRecursion}
 use Rattle.mesh_defs.specs.Tables.{dim_of, corner_count}
 use Rattle.mesh_defs.specs.Mesh.{Mesh, Cell}
+use Rattle.text_defs.specs.Triangles.{differ_as_sets}
 use Rattle.mesh_defs.specs.Points.{Point, contains}
 
 -- each vertex stands in some cell
@@ -29,3 +30,7 @@ pub record IsSoundMesh (m : Mesh) : Type 0 where
   pub dim : IsFlatOrSolid m
   pub cells : AllByRecursion (IsSoundCell m) m.cells
   pub used : UsesVertices m
+
+-- no two cells have the same vertices
+abbrev pub CellsDiffer : Mesh → Type 0
+CellsDiffer m = differ_as_sets (map (λ (cell : Cell). cell.vertices) m.cells) ≡ true

@@ -4,9 +4,11 @@
 #![tactic(auto)]
 
 ghost use Rattle.std.specs.Prelude.{◌≡◌, ◌≢◌, if◌then◌else◌, Bool, ◌↔◌, ◌==◌, ◌<◌, ◌≤◌, ℕ, ◌+◌, List, None, Some, Option, Contains, IsPermutation, length, map, slice_index, slice_index_or, filter, filter_map, flat_map, option_and_then, true};
-ghost use Rattle.mesh_defs.specs.Lists.{below};
+ghost use Rattle.std.specs.List.{list_any};
+ghost use Rattle.mesh_defs.specs.Lists.{below, picked};
+ghost use Rattle.mesh_defs.specs.Tables.{Facet, facets_of};
 ghost use Rattle.mesh_defs.specs.Mesh.{Mesh, placed_cells};
-ghost use Rattle.mesh_defs.specs.Points.{Point, Sight, point_of, shows, sights, key, arrangement};
+ghost use Rattle.mesh_defs.specs.Points.{Point, Sight, point_on, point_of, shows, sights, key, arrangement};
 ghost use Rattle.mesh_defs.specs.Diagram.{strata, chart, diagram, IsAccepted};
 ghost use Rattle.mesh_laws.specs.TriangleMesh.{points_differ};
 ghost use Rattle.rank_defs.specs.Closure.{IsArranged, arrangements};
@@ -15,7 +17,7 @@ ghost use Rattle.rank_defs.specs.Ranks.{IsAssignment, least, assigned, held_cell
 ghost use Rattle.rank_defs.specs.Spread.{charts, point_forest, migration_forest, trace};
 ghost use Rattle.rank_defs.specs.Home.{home_points, IsHomeRound};
 ghost use Rattle.rank_defs.specs.Rounds.{Round};
-ghost use Rattle.rank_laws.specs.Conditions.{UsesVertices, IsFlatOrSolid, IsSoundMesh, in_some};
+ghost use Rattle.rank_laws.specs.Conditions.{UsesVertices, IsFlatOrSolid, IsSoundMesh, CellsDiffer, in_some};
 
 // ---- points
 
@@ -60,6 +62,11 @@ pub fn owned_points_are_all_points()
 /// The chart with k layers is the part of the chart with one more layer that the cells with k layers contain.
 pub fn charts_grow()
     ensures { (m : Mesh) (a : List ℕ) (r : ℕ) (k : ℕ) → filter (λ s. in_some (point_of s) (held_cells m a r k)) (held m a r (k + 1)) ≡ held m a r k }
+{}
+
+/// A rank that holds a point holds the points that it covers, with any overlap, so that cones stay within charts.
+pub fn charts_are_closed()
+    ensures { (m : Mesh) (a : List ℕ) (r : ℕ) (k : ℕ) → IsSoundMesh m → IsAccepted m → CellsDiffer m → (s : Sight) (f : Facet) → Contains (held m a r k) s → Contains (facets_of s.poly) f → list_any (shows (point_on f.poly (picked s.arrangement f.corners))) (held m a r k) ≡ true }
 {}
 
 /// Of the points that a rank holds with k layers, those that it owns are its owned points, in the same order.

@@ -1,28 +1,19 @@
--- A chart has the facets of its points.
-use Rattle.std.proofs.Common.{◌≡◌, ◌≢◌, ℕ, zero, suc, ◌+◌, ◌*◌, ◌<◌, ◌≤◌, min, max, Bool, true, false, cond, not, ◌&&◌, ◌||◌, ◌==◌, nat_lt, if◌then◌else◌, List, [], ◌∷◌, ◌++◌, map, length, get_or, slice_index, ℤ, pos, negsuc, Option, Some, None, refl, sym, ap, ap₂, ◌∙◌, subst, subst₂, inl, inr, ◌⊎◌, ⊎_elim, arith}
-use Rattle.std.specs.Prelude.{find, flat_map, option_map, option_and_then}
-use Rattle.std.specs.List.{list_any, list_all, AllByRecursion, filter, enumerate_from}
+-- The edges of a polygon that is listed under another orientation.
+use Rattle.std.proofs.Common.{◌≡◌, ℕ, ◌<◌, Bool, true, ◌||◌, ◌==◌, nat_lt, List, [], ◌∷◌, map, length, get_or, ℤ, Some, refl, sym, ap, ◌∙◌, subst, ⊎_elim, arith}
+use Rattle.std.specs.List.{list_any, list_all, AllByRecursion}
 use Rattle.std.specs.Cmp.Lexicographic.{same_text}
-use Rattle.std.proofs.lemmas.Bool.{and_parts, and_from, ltb-true, eqb-true, eq-eqb, ne_eqb, or_left, or_right, or_cases, or_parts, cond-true, cond-false, both_ways, not-true}
-use Rattle.std.proofs.lemmas.List.{length-map, get_or-map}
-use Rattle.std.proofs.lemmas.List.Folds.{list_any-append}
+use Rattle.std.proofs.lemmas.Bool.{and_parts, ltb-true, eqb-true, or_cases}
+use Rattle.std.proofs.lemmas.List.{length-map}
 use Rattle.mesh_defs.specs.declared.Poly.{Poly}
 use Rattle.mesh_defs.specs.declared.Poly.TheVariants.{Vertex, Segment, Triangle, Quad, Tet, Hex}
-use Rattle.mesh_defs.specs.Lists.{below, same_list, sorted, picked}
-use Rattle.mesh_defs.specs.Tables.{Facet, dim_of, corner_count, facets_of, edges_of}
+use Rattle.mesh_defs.specs.Lists.{same_list, sorted, picked}
+use Rattle.mesh_defs.specs.Tables.{dim_of, corner_count, facets_of, edges_of}
 use Rattle.mesh_defs.specs.Orientation.{rotations, reflections, orientations, corners_under, act, relative}
-use Rattle.mesh_defs.specs.Mesh.{Mesh, Cell, placed_cells}
-use Rattle.mesh_defs.specs.Points.{Point, Sight, same_point, point_on, point_of, shows, sights_of, sights, vertex_sight, first_sight, arrangement, contains}
-use Rattle.mesh_defs.specs.Diagram.{strata, chart, seen_under, IsAccepted}
-use Rattle.mesh_laws.proofs.Places.{each_fails, all_weaker, all_both, all_from, all_map, all_append, all_enumerated, all_in_flat_map, any_weaker, any_map, any_enumerated}
-use Rattle.mesh_laws.proofs.Firsts.{same_list-self, same_point-self, same_point-true, shows-true, shown_itself}
-use Rattle.mesh_laws.proofs.Turns.{find-passes, relative-carries}
-use Rattle.rank_laws.specs.Conditions.{IsFlatOrSolid, IsSoundCell, IsSoundMesh}
-use Rattle.rank_laws.proofs.Lists.{among, any_filter, find-has}
-use Rattle.rank_laws.proofs.Shapes.{HasShape, are_corners, is_pair, is_edge_of, is_side_of, is_face_of, all-pass, edges-are_pairs, sides-are_edges, facets-are_faces, picked-differ, picked-shape}
-use Rattle.rank_laws.proofs.Found.{two-entries, poly-zero, poly-one, poly-two, length-sorted, sorted-turned, shows-list, edge-there, picked-picked}
-
--- ---- the edges of a polygon that is turned
+use Rattle.mesh_laws.proofs.Places.{all_weaker, all_both}
+use Rattle.mesh_laws.proofs.Turns.{relative-carries}
+use Rattle.rank_laws.proofs.Lists.{among, find-has}
+use Rattle.rank_laws.proofs.Shapes.{are_corners, is_pair, all-pass, edges-are_pairs}
+use Rattle.rank_laws.proofs.Found.{two-entries, sorted-turned, picked-picked}
 
 -- each edge of the corners is an edge of the corners under an orientation, one way or the other
 abbrev keeps_edges : Poly → ℤ → Bool
@@ -44,7 +35,7 @@ unfolding relative
 relative-keeps p from to o flat h = find-has (λ o. keeps_edges p o ≡ true) (λ o. same_list (act p o from) to) (orientations p) o (all-pass (keeps_edges p) (orientations p) (polygons-keep_edges p flat)) h
 
 -- the facets of a polygon are its edges
-polygon-facets : (p : Poly) → dim_of p ≡ 2 → facets_of p ≡ map (λ e. record { poly = Segment; corners = e }) (edges_of p)
+pub polygon-facets : (p : Poly) → dim_of p ≡ 2 → facets_of p ≡ map (λ e. record { poly = Segment; corners = e }) (edges_of p)
 polygon-facets Vertex e = absurd (omega arith)
 polygon-facets Segment e = absurd (omega arith)
 polygon-facets Triangle e = refl
@@ -53,13 +44,13 @@ polygon-facets Tet e = absurd (omega arith)
 polygon-facets Hex e = absurd (omega arith)
 
 -- the corners of a pair are below n
-pair-below : (n : ℕ) (e : List ℕ) → is_pair n e ≡ true → AllByRecursion (λ k. k < n) e
+pub pair-below : (n : ℕ) (e : List ℕ) → is_pair n e ≡ true → AllByRecursion (λ k. k < n) e
 pair-below n e h =
     let both = and_parts (length e == 2) (are_corners n e) h in
     all_weaker (λ k. nat_lt k n ≡ true) (λ k. k < n) (λ k x. ltb-true k n x) e (all-pass (λ k. nat_lt k n) e (and_parts (list_all (λ k. nat_lt k n) e) _ both.1).0)
 
 -- What the edges of a polygon have as sets, the edges have when the polygon is listed under another orientation.
-turned-edges : (Q : List ℕ → Type 0) (p : Poly) (from to : List ℕ) (o : ℤ) → dim_of p ≡ 2 → length to ≡ corner_count p → relative p from to ≡ Some o → AllByRecursion (λ e. Q (sorted (picked to e))) (edges_of p) → AllByRecursion (λ e. Q (sorted (picked from e))) (edges_of p)
+pub turned-edges : (Q : List ℕ → Type 0) (p : Poly) (from to : List ℕ) (o : ℤ) → dim_of p ≡ 2 → length to ≡ corner_count p → relative p from to ≡ Some o → AllByRecursion (λ e. Q (sorted (picked to e))) (edges_of p) → AllByRecursion (λ e. Q (sorted (picked from e))) (edges_of p)
 unfolding act
 turned-edges Q p from to o flat long h all =
     all_both (λ e. list_any (λ f. same_list (picked (corners_under p o) f) e || same_list (picked (corners_under p o) f) (get_or e 1 0 ∷ get_or e 0 0 ∷ [])) (edges_of p) ≡ true) (λ e. is_pair (corner_count p) e ≡ true) (λ e. Q (sorted (picked from e))) one (edges_of p)
