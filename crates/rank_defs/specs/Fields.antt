@@ -29,7 +29,7 @@ unfoldable pub row_values : Section → ℕ → Option (List ℤ)
 row_values f number = option_map (λ (r : Row). r.values) (find (λ (r : Row). r.number == number) (reverse f.rows))
 
 -- the number under which a data section names a point: the position of a vertex, or the place of a cell
-abbrev number_on : Mesh → Place → Sight → Option ℕ
+abbrev pub number_on : Mesh → Place → Sight → Option ℕ
 number_on m Node s = if dim_of s.poly == 0 then Some s.key else None
 number_on m Element s = if dim_of s.poly == m.dim then Some (s.key / 64) else None
 
