@@ -1,5 +1,5 @@
 -- The body of a section NodeData or ElementData, after the MSH format 2.2 of the Gmsh manual.
-use Rattle.std.specs.Prelude.{ℕ, ◌-◌, Bool, ◌||◌, ◌==◌, nat_le, List, [], get_or, ℤ, pos, negsuc, ok_or, Result, Ok, Err}
+use Rattle.std.specs.Prelude.{ℕ, ◌-◌, ◌||◌, ◌==◌, nat_le, List, [], get_or, ℤ, pos, negsuc, ok_or, Result, Ok, Err}
 use Rattle.mesh_defs.specs.declared.Place.{Place}
 use Rattle.mesh_defs.specs.Mesh.{Row, Section}
 use Rattle.scan_defs.specs.declared.NumberFault.{NumberFault}
@@ -23,11 +23,9 @@ faults_at end = record { number = number_fault; name = BadName; ended = Ended en
 abbrev pub real : Reader DataFault Decimal
 real = number (λ token. ok_or (decimal_of token) numbers.NotNumber)
 
-abbrev pub is_comps : ℕ → Bool
-is_comps n = (n == 1) || (n == 3) || (n == 9)
-
+-- 1, 3 or 9 components
 abbrev pub comps_on : ℕ → ℤ → Result ℕ DataFault
-comps_on line (pos n) = ok_where (is_comps n) n (Components line n)
+comps_on line (pos n) = ok_where ((n == 1) || (n == 3) || (n == 9)) n (Components line n)
 comps_on line (negsuc n) = Err (Components line 0)
 
 abbrev pub rows_on : ℕ → ℤ → Result ℕ DataFault

@@ -1,5 +1,5 @@
 -- Generated meshes: grids of squares and cubes, whole or cut into triangles and tetrahedra.
-use Rattle.std.specs.Prelude.{ℕ, ◌+◌, ◌*◌, ◌^◌, ◌==◌, if◌then◌else◌, List, [], ◌∷◌, map, flat_map, ℤ, pos}
+use Rattle.std.specs.Prelude.{ℕ, ◌+◌, ◌*◌, ◌^◌, ◌==◌, if◌then◌else◌, List, [], ◌∷◌, map, flat_map, pos}
 use Rattle.mesh_defs.specs.declared.Poly.{Poly}
 use Rattle.mesh_defs.specs.declared.Poly.TheVariants as poly
 use Rattle.mesh_defs.specs.Tables.{dim_of}
@@ -32,9 +32,6 @@ spots nx ny nz = flat_map (λ z. flat_map (λ y. map (λ x. record { x = x; y = 
 unfoldable pub grid_points : Kind → ℕ → List Spot
 grid_points kind n = spots (n + 1) (n + 1) (layers kind (n + 1))
 
-abbrev pub coordinates : Spot → List ℤ
-coordinates p = map (λ c. pos (c * 10 ^ 10)) (p.x ∷ p.y ∷ p.z ∷ [])
-
 -- the squares or cubes
 unfoldable pub grid_cells : Kind → ℕ → List Spot
 grid_cells kind n = spots n n (layers kind n)
@@ -62,7 +59,7 @@ cells_at kind n p = map (λ cut. record { poly = poly_of kind; vertices = picked
 unfoldable pub made : Kind → ℕ → Mesh
 made kind n = record {
   dim = dim_of (poly_of kind);
-  at = map coordinates (grid_points kind n);
+  at = map (λ (p : Spot). map (λ c. pos (c * 10 ^ 10)) (p.x ∷ p.y ∷ p.z ∷ [])) (grid_points kind n);
   cells = flat_map (cells_at kind n) (grid_cells kind n);
   marks = [];
   names = [];

@@ -116,16 +116,13 @@ abbrev pub short_file : List ℕ → Option (List ℕ) → Result (List ℕ) Ref
 short_file name None = refuse status.ReadFault (read_refused name)
 short_file name (Some bytes) = if nat_lt most_bytes (length bytes) then refuse status.TooLong (too_long_refused name) else Ok bytes
 
-abbrev pub plan_in : List ℕ → Result Plan Refusal
-plan_in bytes = or_refuse status.Plan plan_refused (plan_of bytes)
-
 abbrev pub mesh_in : List ℕ → Result Mesh Refusal
 mesh_in bytes = or_refuse status.Mesh msh_refused (content bytes) >>= (λ c. or_refuse status.Mesh mesh_refused (accepted c))
 
 -- where the files that are asked for are there: the plan or its refusal, and the mesh or its refusal
 abbrev pub plan_asked : (List ℕ → Option (List ℕ)) → Option (List ℕ) → Result (Result Plan Refusal) Refusal
 plan_asked file None = Ok (Ok plain_plan)
-plan_asked file (Some name) = map_ok plan_in (short_file name (file name))
+plan_asked file (Some name) = map_ok (λ bytes. or_refuse status.Plan plan_refused (plan_of bytes)) (short_file name (file name))
 
 abbrev pub mesh_asked : (List ℕ → Option (List ℕ)) → Source → Result (Result Mesh Refusal) Refusal
 mesh_asked file (File name) = map_ok mesh_in (short_file name (file name))

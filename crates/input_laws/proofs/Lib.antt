@@ -9,3 +9,4 @@ pub mod LocalLines
 pub mod LocalBytes
 pub mod Sets
 pub mod RightFiles
+pub mod PlainText

@@ -1,5 +1,5 @@
 -- The bodies of all sections are read locally.
-use Rattle.std.proofs.Common.{◌≡◌, ℕ, zero, suc, ◌-◌, Bool, true, false, cond, not, ◌==◌, nat_le, List, [], ◌∷◌, Ok, Err, ℤ, pos, negsuc, refl, sym, ap, ◌∙◌}
+use Rattle.std.proofs.Common.{◌≡◌, ℕ, zero, suc, ◌-◌, Bool, true, false, cond, not, ◌||◌, ◌==◌, nat_le, List, [], ◌∷◌, Ok, Err, ℤ, pos, negsuc, refl, sym, ap, ◌∙◌}
 use Rattle.std.specs.Prelude.{Result, is_some, ok_or}
 use Rattle.scan_defs.specs.declared.NumberFault.{NumberFault}
 use Rattle.scan_defs.specs.declared.NumberFault.TheVariants as numbers
@@ -14,7 +14,7 @@ use Rattle.input_defs.specs.declared.MshFault.TheVariants.{Version, Binary, Repe
 use Rattle.input_defs.specs.Causes.{ok_where}
 use Rattle.input_defs.specs.Bodies.{number, tested, int, fixed, quoted}
 use Rattle.input_defs.specs.Sections.{faults_of, number_fault, has, count, is_version, format, name, names, node, nodes_behind, nodes, poly_of_type, corners_of_type, corners_behind, element, elements}
-use Rattle.input_defs.specs.DataSections.{number_fault as data_number_fault, faults_at, real, is_comps, comps_on, rows_on, row, section}
+use Rattle.input_defs.specs.DataSections.{number_fault as data_number_fault, faults_at, real, comps_on, rows_on, row, section}
 use Rattle.input_laws.specs.FaultLines.{line_of, data_line_of}
 use Rattle.input_laws.proofs.Local.{TellLines, IsLocal, give-local, bind-local, many-local, tested-local, quoted-local}
 
@@ -109,7 +109,7 @@ elements-local known = bind-local line_of _ _ (count-local 1000000 what.Elements
 -- ---- data sections
 
 comps-told : (l : ℕ) (x : ℤ) (e : DataFault) → comps_on l x ≡ Err e → data_line_of e ≡ l
-comps-told l (pos n) e h = ok_where-err data_line_of (is_comps n) n (data_fault.Components l n) e h
+comps-told l (pos n) e h = ok_where-err data_line_of ((n == 1) || (n == 3) || (n == 9)) n (data_fault.Components l n) e h
 comps-told l (negsuc n) e h = let same : data_fault.Components l 0 ≡ e = cc h in ap data_line_of (sym same)
 
 rows-told : (l : ℕ) (x : ℤ) (e : DataFault) → rows_on l x ≡ Err e → data_line_of e ≡ l
