@@ -1,5 +1,5 @@
 -- A cursor that moves, and what stands ahead of it.
-use Rattle.std.proofs.Common.{◌≡◌, ℕ, zero, suc, ◌+◌, ◌-◌, ◌<◌, ◌≤◌, Bool, true, false, not, cond, eqb, ltb, ◌⊎◌, Some, None, Err, ◌&&◌, ◌||◌, List, [], ◌∷◌, length, take, drop, get_or, reverse, refl, sym, ap, ◌∙◌, inl, inr, arith}
+use Rattle.std.proofs.Common.{◌≡◌, ℕ, zero, suc, ◌+◌, ◌-◌, ◌<◌, ◌≤◌, Bool, true, false, not, cond, eqb, ltb, None, Err, ◌&&◌, ◌||◌, List, [], ◌∷◌, length, take, drop, get_or, reverse, refl, sym, ap, ◌∙◌, inl, inr, arith}
 use Rattle.std.specs.Prelude.{take_while}
 use Rattle.std.specs.List.{list_all, position_or_len}
 use Rattle.std.proofs.lemmas.Bool.{eqb-true, ltb-true, ltb-false, cases_lt}
@@ -10,7 +10,7 @@ use Rattle.text_defs.specs.Rows.{is_blank, is_newline}
 use Rattle.scan_defs.specs.Lines.{line_number, lines_from, is_indent, rest_of_line, line_end, behind_line, front, back}
 use Rattle.scan_defs.specs.Items.{Item, Header, Word, ahead}
 use Rattle.scan_defs.specs.Quotes.{quoted_in}
-use Rattle.scan_defs.specs.Steps.{next_token, place_after_token, ahead_after_token, next_header}
+use Rattle.scan_defs.specs.Steps.{line_ahead, next_token, place_after_token, ahead_after_token}
 use Rattle.scan.specs.declared.cursor.Cursor.{Cursor}
 use Rattle.scan.specs.Cursors.{is_gap, spot, IsAt, IsWithin, header_name}
 use Rattle.scan.proofs.Ahead.{left, over-newline, over-blank, over-token, over-header, over-last-header, at-end, dollar-first, front-none}
@@ -272,7 +272,7 @@ pub record Ended (bytes : List ℕ) (c : Cursor) : Type 0 where
   pub stands : (p : ℕ) → place_after_token (spot bytes p) (ahead (spot bytes c.place)) ≡ c.place
   pub rest : ahead_after_token (ahead (spot bytes c.place)) ≡ ahead (spot bytes c.place)
   pub quoted : quoted_in bytes (ahead (spot bytes c.place)) ≡ Err c.line
-  pub name : (length bytes ≤ c.place) ⊎ (next_header (ahead (spot bytes c.place)) ≡ Some (header_name bytes c))
+  pub line : line_number bytes c.place ≡ line_ahead bytes (ahead (spot bytes c.place))
 
 -- a header line is ahead
 pub header-ahead : (bytes : List ℕ) (c : Cursor) → IsAt bytes c → c.place < length bytes → (c.is_indent && eqb (get_or bytes c.place 0) 36) ≡ true
@@ -282,22 +282,22 @@ header-ahead bytes c at lt dollar = elim (cases_lt (line_end bytes c.place) (len
   | inr last ↦ (record { place = line_end bytes c.place; line = c.line; is_indent = false }, (past-header-last bytes c (line_end bytes c.place) at lt dollar refl last).is)
 ]
 
-ended-header : (bytes : List ℕ) (c : Cursor) (items : List Item) → ahead (spot bytes c.place) ≡ Header (header_name bytes c) ∷ items → Ended bytes c
+ended-header : (bytes : List ℕ) (c : Cursor) (items : List Item) → IsAt bytes c → ahead (spot bytes c.place) ≡ Header (header_name bytes c) ∷ items → Ended bytes c
 unfolding quoted_in
-ended-header bytes c items e =
+ended-header bytes c items at e =
     let one : c.place + 1 - 1 ≡ c.place = omega arith in
-    record { token = rw e refl; stands = λ p. rw e one; rest = rw e refl; quoted = rw e refl; name = inr (rw e refl) }
+    record { token = rw e refl; stands = λ p. rw e one; rest = rw e refl; quoted = rw e refl; line = rw e (sym at.line) }
 
 pub ended-last : (bytes : List ℕ) (c : Cursor) → IsAt bytes c → length bytes ≤ c.place → Ended bytes c
 unfolding quoted_in
 ended-last bytes c at le =
     let e = ahead-end bytes c.place le in
     let n : length bytes ≡ c.place = let i = at.inside in omega arith in
-    record { token = rw e refl; stands = λ p. rw e n; rest = rw e refl; quoted = rw (e, n) (ap Err (sym at.line)); name = inl le }
+    record { token = rw e refl; stands = λ p. rw e n; rest = rw e refl; quoted = rw (e, n) (ap Err (sym at.line)); line = rw (e, n) refl }
 
 ended-at : (b h : Bool) (bytes : List ℕ) (c : Cursor) → IsAt bytes c → ltb c.place (length bytes) ≡ b → (c.is_indent && eqb (get_or bytes c.place 0) 36) ≡ h → (b && not h) ≡ false → Ended bytes c
 ended-at false h bytes c at e f none = ended-last bytes c at (ltb-false c.place (length bytes) e)
-ended-at true true bytes c at e f none = let a = header-ahead bytes c at (ltb-true c.place (length bytes) e) f in ended-header bytes c (ahead (spot bytes a.0.place)) a.1
+ended-at true true bytes c at e f none = let a = header-ahead bytes c at (ltb-true c.place (length bytes) e) f in ended-header bytes c (ahead (spot bytes a.0.place)) at a.1
 ended-at true false bytes c at e f none = absurd cc
 
 pub ended : (bytes : List ℕ) (c : Cursor) → IsAt bytes c → (ltb c.place (length bytes) && not (c.is_indent && eqb (get_or bytes c.place 0) 36)) ≡ false → Ended bytes c

@@ -1,10 +1,10 @@
 //! The scan of a file: header lines, tokens and quoted texts.
 
-ghost use Rattle.std.specs.Prelude.{◌≡◌, ◌-◌, ◌<◌, ◌≤◌, length, if◌then◌else◌, Some, None, IfSome, IfOk};
+ghost use Rattle.std.specs.Prelude.{◌≡◌, ◌-◌, ◌<◌, ◌≤◌, length, if◌then◌else◌, Some, None, IfSome, IfNone, IfOk};
 ghost use Rattle.scan_defs.specs.Lines.{line_number, front, back};
 ghost use Rattle.scan_defs.specs.Items.{text_of, ahead};
 ghost use Rattle.scan_defs.specs.Quotes.{is_quoted, quoted_from, quoted_in};
-ghost use Rattle.scan_defs.specs.Steps.{moved, next_token, place_after_token, ahead_after_token, next_header, place_after_header, ahead_after_header, place_after_quoted, ahead_after_quoted};
+ghost use Rattle.scan_defs.specs.Steps.{moved, line_ahead, next_token, place_after_token, ahead_after_token, next_header, place_after_header, ahead_after_header, place_after_quoted, ahead_after_quoted};
 ghost use Rattle.scan.specs.Cursors.{IsWithin};
 
 use crate::cursor::{
@@ -74,6 +74,8 @@ impl<'a> Scan<'a> {
     pub fn token(&mut self) -> Option<Token>
         ensures token { result ≡ next_token (ahead self.old) }
         ensures stands { self.new ≡ moved self.old (place_after_token self.old (ahead self.old)) }
+        // After none its line is that of the header line that ended the body, or of the end.
+        ensures line { IfNone result (line_number self.new.bytes self.new.place ≡ line_ahead self.new.bytes (ahead self.new)) }
         ensures ahead { ahead self.new ≡ ahead_after_token (ahead self.old) }
         ensures within { IfSome result (λ t. IsWithin self.new.bytes t) }
         ensures bytes { self.new.bytes ≡ self.old.bytes }

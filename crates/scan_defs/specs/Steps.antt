@@ -1,12 +1,18 @@
 -- What the calls of a scan answer, and where it stands after them.
 use Rattle.std.specs.Prelude.{ℕ, ◌-◌, ◌==◌, Bool, if◌then◌else◌, List, [], ◌∷◌, length, Option, Some, None, Result, Ok, Err}
 use Rattle.scan_defs.specs.declared.Token.{Token}
-use Rattle.scan_defs.specs.Lines.{line_end, behind_line}
+use Rattle.scan_defs.specs.Lines.{line_number, line_end, behind_line}
 use Rattle.scan_defs.specs.Items.{Item, Header, Word, Spot}
 
 -- the same bytes, at another place
 abbrev pub moved : Spot → ℕ → Spot
 moved s place = record { bytes = s.bytes; place = place }
+
+-- the line of the header line or token that is ahead, or of the end of the file
+abbrev pub line_ahead : List ℕ → List Item → ℕ
+line_ahead bytes [] = line_number bytes (length bytes)
+line_ahead bytes (Header name ∷ items) = name.line
+line_ahead bytes (Word token ∷ items) = token.line
 
 -- ---- the next token of the body
 

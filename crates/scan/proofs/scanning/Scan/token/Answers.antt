@@ -16,3 +16,7 @@ pub returns-then-not-begins_token-clause-ahead : goal.returns-then-not-begins_to
 returns-then-not-begins_token-clause-ahead c =
     let e = ended c.self.inside.bytes.now c.past_gaps-at.result c.past_gaps-at.ensures.at (sym c.begins_token.ensures ∙ c.if-not-begins_token.true) in
     rw (← c.self.view_is, ← c.past_gaps-at.ensures.ahead) (sym e.rest)
+
+pub returns-then-not-begins_token-clause-line : goal.returns-then-not-begins_token-clause-line
+returns-then-not-begins_token-clause-line c =
+    (ended c.self.inside.bytes.now c.past_gaps-at.result c.past_gaps-at.ensures.at (sym c.begins_token.ensures ∙ c.if-not-begins_token.true)).line
