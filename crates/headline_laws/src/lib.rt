@@ -3,12 +3,19 @@
 //! Each function below does nothing: its contract is the law, and its proof is the law's.
 #![tactic(auto)]
 
-ghost use Rattle.std.specs.Prelude.{◌≡◌, ℕ, ◌+◌, ◌<◌, ◌==◌, List, ◌++◌, length, map, take, slice_index, count_by, Some};
-ghost use Rattle.mesh_defs.specs.Mesh.{Mesh};
-ghost use Rattle.mesh_defs.specs.Points.{Sight};
+ghost use Rattle.std.specs.Prelude.{◌≡◌, ℕ, ◌+◌, ◌<◌, ◌==◌, List, [], ◌++◌, length, map, take, slice_index, count_by, Contains, Some, true};
+ghost use Rattle.std.specs.List.{list_any};
+ghost use Rattle.mesh_defs.specs.Mesh.{Mesh, placed_cells};
+ghost use Rattle.mesh_defs.specs.Points.{Point, Sight, point_of, shows};
+ghost use Rattle.mesh_defs.specs.Diagram.{strata, chart, cone, IsAccepted};
+ghost use Rattle.text_defs.specs.Text.{number_of, plain_text};
 ghost use Rattle.rank_defs.specs.Rounds.{Round};
-ghost use Rattle.rank_defs.specs.Home.{IsNumberRound, bases_of};
+ghost use Rattle.rank_defs.specs.Ranks.{IsAssignment};
+ghost use Rattle.rank_defs.specs.Home.{IsNumberRound, bases_of, number};
+ghost use Rattle.rank_laws.specs.Conditions.{IsFlatOrSolid, IsSoundMesh, in_some};
+ghost use Rattle.input_defs.specs.Plans.{plain_plan};
 ghost use Rattle.headline_defs.specs.States.{State};
+ghost use Rattle.headline_defs.specs.Rounds.{due, AreAll};
 ghost use Rattle.headline_defs.specs.StepText.{Subject, ranks_with, numbered, step_text, whole_text, known_text};
 
 /// The text of a step depends on the rounds that were kept up to it alone: on the home round, and
@@ -30,4 +37,22 @@ pub fn numbers_are_drawn_once()
     ensures { (m : Mesh) (n : ℕ) (ranks : List ℕ) (layers : ℕ) (r : Round) → IsNumberRound m ranks n r →
         let printed = map (λ (p : ℕ × Sight). p.0) (numbered (ranks_with m n ranks layers (bases_of r))) in
         (length printed ≡ slice_index r.after 0) × ((k : ℕ) → k < slice_index r.after 0 → count_by (λ x. x == k) printed ≡ 1) }
+{}
+
+/// Without a plan file the whole text of a mesh without names, data and labels is its text on one
+/// rank, whatever legal rounds were kept.
+pub fn plain_plan_prints_the_plain_text()
+    ensures { (m : Mesh) (rounds : List Round) → m.names ≡ [] → m.fields ≡ [] → m.marks ≡ [] → AreAll m 1 (due m plain_plan) rounds → whole_text (record { mesh = m; plan = plain_plan; show = plain_plan.shows }) rounds ≡ plain_text m }
+{}
+
+/// The number by which a cone names a point is the number under which the point is printed: its
+/// owner's base, and its place among the points that the owner owns. So it is for each point of the
+/// chart of all cells, for each point in some cell of a sound mesh, and thus for each entry of a cone
+/// in an accepted mesh of sound cells. In a mesh of dimension 2 or 3 each printed point stands under
+/// this number.
+pub fn cones_name_printed_numbers()
+    ensures points { (m : Mesh) (n : ℕ) (ranks : List ℕ) (layers : ℕ) (bases : List ℕ) (p : Point) → IsAssignment m n ranks → list_any (shows p) (chart m (placed_cells m)) ≡ true → number_of (ranks_with m n ranks layers bases) p ≡ number m ranks bases p }
+    ensures sound { (m : Mesh) (n : ℕ) (ranks : List ℕ) (layers : ℕ) (bases : List ℕ) (p : Point) → IsSoundMesh m → IsAssignment m n ranks → in_some p (placed_cells m) ≡ true → number_of (ranks_with m n ranks layers bases) p ≡ number m ranks bases p }
+    ensures cones { (m : Mesh) (n : ℕ) (ranks : List ℕ) (layers : ℕ) (bases : List ℕ) (s : Sight) → IsSoundMesh m → IsAccepted m → IsAssignment m n ranks → Contains (strata m) s → cone m (number_of (ranks_with m n ranks layers bases)) s ≡ cone m (number m ranks bases) s }
+    ensures printed { (m : Mesh) (n : ℕ) (ranks : List ℕ) (layers : ℕ) (bases : List ℕ) (x : ℕ × Sight) → IsFlatOrSolid m → Contains (numbered (ranks_with m n ranks layers bases)) x → x.0 ≡ number m ranks bases (point_of x.1) }
 {}
