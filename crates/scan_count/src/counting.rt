@@ -1,8 +1,9 @@
 //! Counting the tokens of a file and adding up its coordinates.
 
-ghost use Rattle.std.specs.Prelude.{◌≡◌, ◌+◌, ◌^◌, ◌≤◌, length, count_by, IfOk, pos, neg_ℤ, ◌+ℤ◌, ◌≤ℤ◌};
+ghost use Rattle.std.specs.Prelude.{◌≡◌, ◌+◌, ◌^◌, ◌≤◌, ◌&&◌, if◌then◌else◌, length, count_by, Ok, IfOk, pos, neg_ℤ, ◌+ℤ◌, ◌≤ℤ◌};
 ghost use Rattle.scan_defs.specs.Items.{items, ahead, body, behind_body};
-ghost use Rattle.scan_count.specs.Counting.{is_word, IsStep, AreFew};
+ghost use Rattle.scan_defs.specs.Numbers.{fixed_of};
+ghost use Rattle.scan_count.specs.Counting.{is_word, is_coordinate, is_nodes, coordinates_where, all_coordinates, sum_with, sum_in, IsStep, AreFew};
 
 use scan::{NumberFault, Scan, read_fixed};
 
@@ -13,15 +14,25 @@ pub struct Counts {
     pub sum: i128,
 }
 
-/// Whether the token at this place of the section Nodes is a coordinate: first comes the count, and
-/// then for each node its number and three coordinates.
-fn is_coordinate(place: u32) -> bool {
-    place > 0 && place % 4 != 1
+/// Whether the token at this place of a body is a coordinate: in the section Nodes first comes the
+/// count, and then for each node its number and three coordinates.
+fn is_coordinate(in_nodes: bool, place: u32) -> bool
+    ensures { result ≡ (in_nodes && is_coordinate place) }
+{
+    in_nodes && place > 0 && place % 4 != 1
+}
+
+/// Whether a section has this name.
+fn is_nodes(name: &[u8]) -> bool
+    ensures { result ≡ is_nodes name.now }
+{
+    name == b"Nodes".as_slice()
 }
 
 /// What a token adds to the sum.
 fn added(text: &[u8], is_coordinate: bool) -> Result<i64, NumberFault>
-    ensures { IfOk result IsStep }
+    ensures number { result ≡ (if is_coordinate then fixed_of text.now else Ok (pos 0)) }
+    ensures bound { IfOk result IsStep }
 {
     if is_coordinate {
         read_fixed(text)
@@ -48,13 +59,14 @@ fn count_body(scan: &mut Scan<'_>, counts: Counts, in_nodes: bool) -> Result<Cou
     ensures inside { scan.new.place ≤ length scan.new.bytes }
     ensures goes_on { scan.old.place ≤ scan.new.place }
     ensures few { IfOk result (λ new. AreFew scan.new.place new) }
+    ensures sum { sum_in result ≡ sum_with counts.sum (coordinates_where scan.old.bytes in_nodes 0 (body (ahead scan.old))) }
     ensures tokens { IfOk result (λ new. new.tokens ≡ counts.tokens + length (body (ahead scan.old))) }
     ensures ahead { IfOk result (λ _. ahead scan.new ≡ behind_body (ahead scan.old)) }
 {
     let mut counts = counts;
     let mut place = 0;
     while let Some(token) = scan.token() {
-        let value = added(scan.text(&token), in_nodes && is_coordinate(place))?;
+        let value = added(scan.text(&token), is_coordinate(in_nodes, place))?;
         counts = Counts {
             tokens: counts.tokens + 1,
             sum: plus(counts.sum, value),
@@ -68,13 +80,14 @@ fn count_body(scan: &mut Scan<'_>, counts: Counts, in_nodes: bool) -> Result<Cou
 /// a coordinate is no number.
 pub fn count(bytes: &[u8]) -> Result<Counts, NumberFault>
     requires { length bytes.now ≤ 268435456 }
-    ensures { IfOk result (λ counts. counts.tokens ≡ count_by is_word (items bytes.now)) }
+    ensures tokens { IfOk result (λ counts. counts.tokens ≡ count_by is_word (items bytes.now)) }
+    ensures sum { sum_in result ≡ sum_with (pos 0) (all_coordinates bytes.now (items bytes.now)) }
 {
     let mut scan = Scan::new(bytes);
     let nothing = Counts { tokens: 0, sum: 0 };
     let mut counts = count_body(&mut scan, nothing, false)?;
     while let Some(name) = scan.header() {
-        let in_nodes = scan.text(&name) == b"Nodes".as_slice();
+        let in_nodes = is_nodes(scan.text(&name));
         counts = count_body(&mut scan, counts, in_nodes)?;
     }
     Ok(counts)

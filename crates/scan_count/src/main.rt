@@ -5,6 +5,9 @@
 //! exit status is that of [`Trouble`], or 0.
 #![tactic(auto)]
 
+ghost use Rattle.std.specs.Prelude.{◌≡◌, IfOk};
+ghost use Rattle.scan_count.specs.Statuses.{counts_text};
+
 mod counting;
 mod trouble;
 
@@ -14,13 +17,22 @@ use scan::print_fixed;
 use shelf_io::{FolderShelf, OutSink, Shelf, Sink};
 use std::alloc::Global;
 use std::env;
+use std::io::{self, ErrorKind};
 use std::process::ExitCode;
 use std::rt::{Env, Files};
 use trouble::Trouble;
 
+/// Words that can't be read are refused ones.
+fn unread(error: &io::Error) -> Trouble {
+    match error.kind() {
+        ErrorKind::OutOfMemory => Trouble::Memory,
+        _ => Trouble::Words,
+    }
+}
+
 /// The only word behind the program's name.
 fn file_name<R: Env + AllocGlobal>(rt: &R) -> Result<String, Trouble> {
-    let mut words = env::args(rt).map_err(|_| Trouble::Words)?.skip(1);
+    let mut words = env::args(rt).map_err(|e| unread(&e))?.skip(1);
     let name = words.next().ok_or(Trouble::Words)?;
     match words.next() {
         None => Ok(name),
@@ -36,7 +48,9 @@ fn count_file<R: Files + AllocGlobal>(rt: &R, name: &str) -> Result<Counts, Trou
 }
 
 /// The lines `tokens N` and `sum S`.
-fn lines(alloc: Global, counts: &Counts) -> Result<Vec<u8>, Trouble> {
+fn lines(alloc: Global, counts: &Counts) -> Result<Vec<u8>, Trouble>
+    ensures { IfOk result (λ lines. lines.items ≡ counts_text counts.now) }
+{
     let tokens = counts.tokens;
     let mut lines = format!(in alloc; "tokens {tokens}\nsum ")?.into_bytes();
     print_fixed(counts.sum, &mut lines)?;

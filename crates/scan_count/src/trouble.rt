@@ -1,5 +1,9 @@
 //! Why nothing was counted.
 
+ghost use Rattle.std.specs.Prelude.{◌≡◌};
+ghost use Rattle.scan_count.specs.declared.trouble.Trouble.TheVariants.{Write, Memory};
+ghost use Rattle.scan_count.specs.Statuses.{status_of, trouble_of};
+
 use plex_base::NoMemory;
 use shelf_io::{Failed, ShelfFault};
 use std::alloc::{AllocError, AllocFailed};
@@ -21,7 +25,9 @@ pub enum Trouble {
 
 impl Trouble {
     /// The exit status.
-    pub fn code(self) -> u8 {
+    pub(crate) fn code(self) -> u8
+        ensures { result ≡ status_of self }
+    {
         match self {
             Trouble::Words => 2,
             Trouble::NoNumber => 4,
@@ -33,6 +39,8 @@ impl Trouble {
 }
 
 impl From<ShelfFault> for Trouble {
+    ghost from_gives = { λ fault trouble. trouble ≡ trouble_of fault };
+
     fn from(fault: ShelfFault) -> Trouble {
         match fault {
             ShelfFault::Failed | ShelfFault::TooLong => Trouble::Read,
@@ -42,24 +50,32 @@ impl From<ShelfFault> for Trouble {
 }
 
 impl From<Failed> for Trouble {
+    ghost from_gives = { λ _ trouble. trouble ≡ Write };
+
     fn from(_: Failed) -> Trouble {
         Trouble::Write
     }
 }
 
 impl From<NoMemory> for Trouble {
+    ghost from_gives = { λ _ trouble. trouble ≡ Memory };
+
     fn from(_: NoMemory) -> Trouble {
         Trouble::Memory
     }
 }
 
 impl From<AllocError> for Trouble {
+    ghost from_gives = { λ _ trouble. trouble ≡ Memory };
+
     fn from(_: AllocError) -> Trouble {
         Trouble::Memory
     }
 }
 
 impl<T: Drop> From<AllocFailed<T>> for Trouble {
+    ghost from_gives = { λ _ trouble. trouble ≡ Memory };
+
     fn from(_: AllocFailed<T>) -> Trouble {
         Trouble::Memory
     }
