@@ -42,7 +42,7 @@ refused_headers : map fault
     ∷ codes "$MeshFormat\n2.2 0 8\n9\n$Nodes\n" ∷ codes "$MeshFormat\n2.2 0 8\n$EndMeshFormat\n$MeshFormat\n" ∷ codes "$MeshFormat\n2.2 0 8\n$EndMeshFormat\n$ElementData\n" ∷ codes "$MeshFormat\n2.2 0 8\n$EndMeshFormat\n$ Nodes\n$Nodes\n"
     ∷ (plain_lines ++ codes "$ElementData") ∷ (plain_lines ++ codes "$Nodes") ∷ (one_triangle ++ codes "$NodeData\n$NodeData") ∷ (one_triangle ++ codes "$Else\n$EndElse\n$End") ∷ [])
     ≡ Some (NotMsh 1) ∷ Some (Header 2) ∷ Some (Header 1) ∷ Some (Unclosed 2) ∷ Some (Unclosed 3) ∷ Some (Unclosed 3) ∷ Some (BadCount 3)
-    ∷ Some (BadCount 3) ∷ Some (RepeatedSection 4) ∷ Some (MissingSection 4 true) ∷ Some (Unclosed 6)
+    ∷ Some (BadCount 3) ∷ Some (RepeatedSection 4) ∷ Some (MissingSection 4 false) ∷ Some (Unclosed 6)
     ∷ Some (MissingSection 10 false) ∷ Some (RepeatedSection 10) ∷ Some (Unclosed 15) ∷ Some (Header 16) ∷ []
 unfolding line_number lines_from lines_of is_indent name_of tokens_on items_on items_of ahead quoted_on uint_of int_of decimal_of scaled fixed_value fixed_of lexeme_of format name names node nodes_behind nodes element elements row section section_of blocks_of misplaced unfinished with_section step said content
 refused_headers = refl

@@ -71,8 +71,7 @@ causes parts line Names = (not parts.format, NotMsh line) ∷ (is_some parts.nam
 causes parts line Nodes = (not parts.format, NotMsh line) ∷ (is_some parts.nodes, RepeatedSection line) ∷ []
 causes parts line Elements = (not parts.format, NotMsh line) ∷ (is_none parts.nodes, MissingSection line true) ∷ (is_some parts.elements, RepeatedSection line) ∷ []
 causes parts line (Data place.Node) = (not parts.format, NotMsh line) ∷ (is_none parts.nodes, MissingSection line true) ∷ (nat_le 16 (length parts.fields), TooMany line what.Fields) ∷ []
-causes parts line (Data place.Element) = (not parts.format, NotMsh line) ∷ (is_none parts.nodes, MissingSection line true) ∷ (is_none parts.elements, MissingSection line false)
-    ∷ (nat_le 16 (length parts.fields), TooMany line what.Fields) ∷ []
+causes parts line (Data place.Element) = (not parts.format, NotMsh line) ∷ (is_none parts.elements, MissingSection line false) ∷ (nat_le 16 (length parts.fields), TooMany line what.Fields) ∷ []
 
 unfoldable pub misplaced : Parts → ℕ → Known → Option MshFault
 misplaced parts line k = first_cause (causes parts line k)

@@ -44,7 +44,7 @@ misplaced-line parts l Names e h = first_cause-line l (causes parts l Names) e (
 misplaced-line parts l Nodes e h = first_cause-line l (causes parts l Nodes) e (refl, (refl, tt)) h
 misplaced-line parts l Elements e h = first_cause-line l (causes parts l Elements) e (refl, (refl, (refl, tt))) h
 misplaced-line parts l (Data place.Node) e h = first_cause-line l (causes parts l (Data place.Node)) e (refl, (refl, (refl, tt))) h
-misplaced-line parts l (Data place.Element) e h = first_cause-line l (causes parts l (Data place.Element)) e (refl, (refl, (refl, (refl, tt)))) h
+misplaced-line parts l (Data place.Element) e h = first_cause-line l (causes parts l (Data place.Element)) e (refl, (refl, (refl, tt))) h
 
 unfinished-line : (parts : Parts) (l : ℕ) (e : MshFault) → unfinished parts l ≡ Some e → line_of e ≡ l
 unfolding unfinished AllOn
