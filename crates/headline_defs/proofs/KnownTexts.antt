@@ -2,22 +2,22 @@
 use Rattle.std.proofs.Common.{◌≡◌, ℕ, List, [], ◌++◌, take, Option, Some, None, refl}
 use Rattle.std.specs.Prelude.{codes}
 use Rattle.std.specs.Fmt.{digits}
-use Rattle.mesh_defs.specs.Lists.{sorted}
+use Rattle.plain_lists.specs.Lists.{sorted}
 use Rattle.mesh_defs.specs.Orientation.{rotations, reflections, orientations, corners_under, act, relative}
 use Rattle.mesh_defs.specs.Points.{sights_of, first_sight, key, arrangement, contains}
 use Rattle.mesh_defs.specs.Diagram.{stratum, strata, chart, seen_under, entry, cone, twist_key, diagram}
-use Rattle.text_defs.specs.Rows.{lines_of, tokens_of}
-use Rattle.text_defs.specs.Numbers.{fraction_digits, unsigned_fixed_text, fixed_text}
+use Rattle.line_defs.specs.Rows.{lines_of, tokens_of}
+use Rattle.line_defs.specs.Numbers.{fraction_digits, unsigned_fixed_text, fixed_text}
 use Rattle.text_defs.specs.Text.{tag, entry_text, at_text, tail_text, mesh_line, ranks_line, step_line, rank_line, total_line, rank_text, total_text, end_line}
-use Rattle.rank_defs.specs.Asks.{step}
-use Rattle.rank_defs.specs.PrintedOrder.{fetched_before, stands_before, printed_order}
-use Rattle.rank_defs.specs.Script.{scripted}
-use Rattle.rank_defs.specs.Closure.{closure}
+use Rattle.sf_defs.specs.Asks.{step}
+use Rattle.sf_defs.specs.PrintedOrder.{fetched_before, stands_before, printed_order}
+use Rattle.sf_defs.specs.Script.{scripted}
+use Rattle.plex_defs.specs.Closure.{closure}
 use Rattle.rank_defs.specs.Home.{by_vertices, shared_points, home_points, home_words, home_asks, number_asks}
 use Rattle.rank_defs.specs.Ranks.{assigned, layer, held_cells, held, ranks_at, owner, is_shared, owned, own_key}
 use Rattle.rank_defs.specs.Spread.{charts, trace}
-use Rattle.rank_defs.proofs.Meshes.{two_triangles}
-use Rattle.rank_defs.specs.Fields.{row_values, dof_words}
+use Rattle.plex_defs.proofs.Meshes.{two_triangles}
+use Rattle.plex_defs.specs.Fields.{row_values, dof_words}
 use Rattle.input_defs.specs.Plans.{form_of, with_form, plan_from, plan_of, rank_by}
 use Rattle.input_defs.specs.Further.{labels_at, labels_text, data_text, full_head}
 use Rattle.headline_defs.specs.States.{states, first_ranks}

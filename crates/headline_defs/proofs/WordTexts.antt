@@ -8,7 +8,7 @@ use Rattle.headline_defs.specs.Rounds.{due}
 use Rattle.headline_defs.specs.States.{states, first_ranks}
 use Rattle.headline_defs.specs.StepText.{ranks_with, ghosts_text, owned_text, held_text, closure_of, closures_text, traces_text, windows_text, sums_text, step_details, step_lines, text_of_steps, whole_text}
 use Rattle.headline_defs.specs.Tops.{asking, replay_asking, runs}
-use Rattle.rank_defs.specs.Fields.{row_values, dof_words}
+use Rattle.plex_defs.specs.Fields.{row_values, dof_words}
 use Rattle.input_defs.specs.Bodies.{lexeme_of}
 use Rattle.input_defs.specs.DataSections.{row, section, section_of}
 use Rattle.input_defs.specs.Files.{blocks_of, misplaced, unfinished, with_section, step as file_step, said, content}
@@ -20,24 +20,24 @@ use Rattle.input_defs.specs.Refused.{msh_text, mesh_text, plan_text, twist_refus
 use Rattle.input_defs.specs.Sections.{format, name, names, node, nodes_behind, nodes, element, elements}
 use Rattle.input_defs.specs.Words.{made_of, with_word, request_from, request}
 use Rattle.mesh_defs.specs.Diagram.{seen_under, twist_key, stratum, strata, chart, entry, cone, diagram}
-use Rattle.mesh_defs.specs.Lists.{sorted, same_list}
+use Rattle.plain_lists.specs.Lists.{sorted, same_list}
 use Rattle.mesh_defs.specs.Orientation.{rotations, reflections, orientations, corners_under, act, relative}
 use Rattle.mesh_defs.specs.Points.{sights_of, first_sight, arrangement, contains, key}
-use Rattle.rank_defs.specs.Asks.{step}
-use Rattle.rank_defs.specs.Closure.{closure}
+use Rattle.sf_defs.specs.Asks.{step}
+use Rattle.plex_defs.specs.Closure.{closure}
 use Rattle.rank_defs.specs.Home.{by_vertices, shared_points, home_points, home_words, home_asks, number_asks}
-use Rattle.rank_defs.specs.PrintedOrder.{fetched_before, stands_before, printed_order}
+use Rattle.sf_defs.specs.PrintedOrder.{fetched_before, stands_before, printed_order}
 use Rattle.rank_defs.specs.Ranks.{assigned, layer, held_cells, held, ranks_at, owner, is_shared, owned, own_key}
-use Rattle.rank_defs.specs.Script.{scripted}
+use Rattle.sf_defs.specs.Script.{scripted}
 use Rattle.rank_defs.specs.Spread.{charts, trace}
 use Rattle.scan_defs.specs.Items.{name_of, tokens_on, items_on, items_of, ahead}
 use Rattle.scan_defs.specs.Lines.{line_number, lines_from, is_indent}
 use Rattle.scan_defs.specs.Numbers.{uint_of, int_of, decimal_of, scaled, fixed_value, fixed_of}
 use Rattle.scan_defs.specs.Quotes.{quoted_on}
 use Rattle.std.specs.Fmt.{digits}
-use Rattle.text_defs.specs.Numbers.{numeral, fraction_digits, unsigned_fixed_text, fixed_text}
+use Rattle.line_defs.specs.Numbers.{numeral, fraction_digits, unsigned_fixed_text, fixed_text}
 use Rattle.text_defs.specs.Refusals.{words_refused, read_refused, too_long_refused}
-use Rattle.text_defs.specs.Rows.{lines_of, tokens_of}
+use Rattle.line_defs.specs.Rows.{lines_of, tokens_of}
 use Rattle.text_defs.specs.Text.{tag, entry_text, at_text, tail_text, mesh_line, ranks_line, step_line, rank_line, total_line, rank_text, total_text, end_line}
 use Rattle.input_defs.proofs.PlateRows.{plate}
 

@@ -1,7 +1,7 @@
 -- The rounds that a call keeps: the home round, and then the number round of each part.
 use Rattle.std.specs.Prelude.{ℕ, List, [], ◌∷◌, map, filter}
 use Rattle.mesh_defs.specs.Mesh.{Mesh}
-use Rattle.rank_defs.specs.Rounds.{Round}
+use Rattle.sf_defs.specs.Rounds.{Round}
 use Rattle.rank_defs.specs.Home.{IsHomeRound, IsNumberRound}
 use Rattle.input_defs.specs.Plans.{Plan, is_part}
 use Rattle.headline_defs.specs.States.{State, states, first_ranks}

@@ -1,6 +1,6 @@
 -- The steps of a plan on a mesh: which rank has which cell, and how many layers of overlap there are.
 use Rattle.std.specs.Prelude.{ℕ, ◌+◌, List, [], ◌∷◌, length, map, get_or}
-use Rattle.mesh_defs.specs.Lists.{below}
+use Rattle.plain_lists.specs.Lists.{below}
 use Rattle.mesh_defs.specs.Mesh.{Mesh}
 use Rattle.input_defs.specs.Plans.{Spread, Move, Part, Layers, Plan, rank_by, layers_with}
 

@@ -3,16 +3,16 @@
 use Rattle.std.specs.Prelude.{ℕ, ◌+◌, ◌-◌, Bool, not, ◌&&◌, ◌==◌, nat_lt, if◌then◌else◌, List, [], ◌∷◌, ◌++◌, length, map, flat_map, get_or, sum_by, count_by, fold, codes, ℤ, pos, ◌+ℤ◌, int_lt, Option, Some, None}
 use Rattle.std.specs.List.{enumerate_from}
 use Rattle.mesh_defs.specs.declared.ConeEntry.{ConeEntry}
-use Rattle.mesh_defs.specs.Lists.{below}
+use Rattle.plain_lists.specs.Lists.{below}
 use Rattle.mesh_defs.specs.Tables.{dim_of}
 use Rattle.mesh_defs.specs.Mesh.{Mesh, Section, placed_cells}
 use Rattle.mesh_defs.specs.Points.{Sight, point_of}
 use Rattle.mesh_defs.specs.Diagram.{strata, cone, diagram, place_in}
 use Rattle.text_defs.specs.Text.{Rank, number_of, rank_text, total_text, end_line}
-use Rattle.rank_defs.specs.declared.Tag.TheVariants.{Free}
-use Rattle.rank_defs.specs.Closure.{closure, arrangements}
-use Rattle.rank_defs.specs.Rounds.{Round, in_order}
-use Rattle.rank_defs.specs.Fields.{dof_words}
+use Rattle.sf_defs.specs.declared.Tag.TheVariants.{Free}
+use Rattle.plex_defs.specs.Closure.{closure, arrangements}
+use Rattle.sf_defs.specs.Rounds.{Round, in_order}
+use Rattle.plex_defs.specs.Fields.{dof_words}
 use Rattle.rank_defs.specs.Home.{bases_of}
 use Rattle.rank_defs.specs.Ranks.{assigned, held, owned, owner}
 use Rattle.rank_defs.specs.Spread.{trace}

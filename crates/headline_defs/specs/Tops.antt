@@ -1,11 +1,11 @@
 -- The two top calls: one whose rounds any fabric runs, and one whose rounds go by picks.
 use Rattle.std.specs.Prelude.{◌≡◌, ℕ, List, [], ◌∷◌, ◌++◌, length, map, take, Option, Some, None, Result, Ok, Err}
-use Rattle.mesh_defs.specs.Lists.{below}
+use Rattle.plain_lists.specs.Lists.{below}
 use Rattle.mesh_defs.specs.Mesh.{Mesh}
 use Rattle.text_defs.specs.Refusals.{words_refused}
-use Rattle.rank_defs.specs.declared.Tag.TheVariants.{Home, Number}
-use Rattle.rank_defs.specs.Rounds.{Round}
-use Rattle.rank_defs.specs.Script.{scripted}
+use Rattle.sf_defs.specs.declared.Tag.TheVariants.{Home, Number}
+use Rattle.sf_defs.specs.Rounds.{Round}
+use Rattle.sf_defs.specs.Script.{scripted}
 use Rattle.rank_defs.specs.Home.{home_points, home_words, home_asks, number_asks}
 use Rattle.input_defs.specs.declared.Status.TheVariants.{Words}
 use Rattle.input_defs.specs.Words.{Source, File, Made, Request, request}

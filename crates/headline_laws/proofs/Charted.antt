@@ -4,7 +4,7 @@ use Rattle.std.specs.List.{list_any, AllByRecursion, enumerate_from}
 use Rattle.std.proofs.lemmas.Bool.{eqb-true, and_parts, or_cases, or_left, or_right}
 use Rattle.std.proofs.lemmas.List.Folds.{list_any-append}
 use Rattle.mesh_defs.specs.declared.Poly.TheVariants.{Segment}
-use Rattle.mesh_defs.specs.Lists.{same_list, picked}
+use Rattle.plain_lists.specs.Lists.{same_list, picked}
 use Rattle.mesh_defs.specs.Tables.{Facet, dim_of, facets_of, edges_of}
 use Rattle.mesh_defs.specs.Mesh.{Mesh, Cell, placed_cells}
 use Rattle.mesh_defs.specs.Points.{Point, Sight, point_of, shows, sights_of, sights, vertex_sight, vertex_sights, contains}
@@ -12,7 +12,7 @@ use Rattle.mesh_defs.specs.Diagram.{stratum, strata, chart}
 use Rattle.mesh_laws.proofs.Places.{all_from, all_weaker, all_both, all_map, all_append, all_enumerated, any_map}
 use Rattle.mesh_laws.proofs.Containing.{sights_of-any_place, chart-all}
 use Rattle.mesh_laws.proofs.Firsts.{shows-true}
-use Rattle.mesh_laws.proofs.TriangleDiagram.{vertex_found}
+use Rattle.mesh_laws.proofs.Vertices.{vertex_found}
 use Rattle.rank_laws.specs.Conditions.{IsSoundCell, IsSoundMesh, in_some}
 use Rattle.rank_laws.proofs.Lists.{stands}
 use Rattle.rank_laws.proofs.Strata.{found-any}

@@ -3,7 +3,7 @@ use Rattle.std.proofs.Common.{◌≡◌, ℕ, zero, suc, ◌+◌, ◌<◌, ◌�
 use Rattle.std.specs.List.{list_any, AllByRecursion, filter, enumerate_from}
 use Rattle.std.proofs.lemmas.Bool.{eqb-true, eq-eqb, and_parts, and_from, or_left, or_right, cases_lt, not-true}
 use Rattle.std.proofs.lemmas.List.Folds.{list_any-append}
-use Rattle.mesh_defs.specs.Lists.{below, picked}
+use Rattle.plain_lists.specs.Lists.{below, picked}
 use Rattle.mesh_defs.specs.Tables.{Facet, facets_of}
 use Rattle.mesh_defs.specs.Mesh.{Mesh, Cell, placed_cells}
 use Rattle.mesh_defs.specs.Points.{Point, Sight, point_on, point_of, shows, contains}
@@ -11,7 +11,7 @@ use Rattle.mesh_defs.specs.Diagram.{strata, chart, place_in, entry, cone, IsAcce
 use Rattle.mesh_laws.proofs.Places.{all_from, all_weaker, all_both, all_map, all_flat_map, all_enumerated, any_weaker, map_same, each_fails, none_passes, filter_passing}
 use Rattle.mesh_laws.proofs.Containing.{chart-all}
 use Rattle.mesh_laws.proofs.Firsts.{shows-true, shows-own, same_point-sym, same_tests}
-use Rattle.mesh_laws.specs.TriangleMesh.{points_differ}
+use Rattle.mesh_defs.specs.Sights.{points_differ}
 use Rattle.text_defs.specs.Text.{Rank, number_of}
 use Rattle.rank_defs.specs.Ranks.{IsAssignment, assigned, held_cells, held, owner, owned}
 use Rattle.rank_defs.specs.Home.{number}

@@ -9,15 +9,15 @@ use Rattle.std.proofs.lemmas.List.Folds.{flat_map-map}
 use Rattle.std.proofs.lemmas.List.FromFn.{length-enumerate_from}
 use Rattle.std.proofs.lemmas.List.Sums.{sum_by-cons, sum_by-append, sum-map}
 use Rattle.std.proofs.lemmas.Slice.Zip.{get_or-zip, length-zip}
-use Rattle.mesh_defs.specs.Lists.{below}
+use Rattle.plain_lists.specs.Lists.{below}
 use Rattle.mesh_defs.specs.Mesh.{Mesh}
 use Rattle.mesh_defs.specs.Points.{Sight}
 use Rattle.text_defs.specs.Text.{Rank}
-use Rattle.rank_defs.specs.declared.Op.TheVariants.{Sum}
-use Rattle.rank_defs.specs.declared.Ask.{Ask}
-use Rattle.rank_defs.specs.Asks.{Entry, step, on_word}
-use Rattle.rank_defs.specs.PrintedOrder.{kind_of}
-use Rattle.rank_defs.specs.Rounds.{Round, added, asks_on, rank_entries, entries}
+use Rattle.sf_defs.specs.declared.Op.TheVariants.{Sum}
+use Rattle.sf_defs.specs.declared.Ask.{Ask}
+use Rattle.sf_defs.specs.Asks.{Entry, step, on_word}
+use Rattle.sf_defs.specs.PrintedOrder.{kind_of}
+use Rattle.sf_defs.specs.Rounds.{Round, added, asks_on, rank_entries, entries}
 use Rattle.rank_defs.specs.Home.{IsNumberRound, number_asks, bases_of}
 use Rattle.rank_defs.specs.Ranks.{owned}
 use Rattle.round_laws.specs.LastValues.{word_after, took}

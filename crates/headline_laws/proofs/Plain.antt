@@ -5,19 +5,19 @@ use Rattle.std.specs.Fmt.{signed_decimal}
 use Rattle.std.specs.List.{enumerate_from, AllByRecursion}
 use Rattle.std.proofs.lemmas.Bool.{eq-eqb}
 use Rattle.std.proofs.Math.Nat.{div-eq_of_lt}
-use Rattle.mesh_defs.specs.Lists.{below}
+use Rattle.plain_lists.specs.Lists.{below}
 use Rattle.mesh_defs.specs.Mesh.{Mesh, Mark, Section, Cell, placed_cells}
 use Rattle.mesh_defs.specs.Points.{Point, Sight, point_of, same_point, contains}
 use Rattle.mesh_defs.specs.Diagram.{chart, cone}
 use Rattle.mesh_laws.proofs.Places.{all_from, all_map, all_weaker, filter_whole, flat_map_same}
 use Rattle.mesh_laws.proofs.Containing.{below-all}
 use Rattle.text_defs.specs.Text.{alone, number_of, tag, line, mesh_line, ranks_line, tail_text, point_line, head_text, rank_text, total_text, point_text, points_text, step_line, step_text as plain_step, end_line, plain_text}
-use Rattle.rank_defs.specs.declared.Op.TheVariants.{Sum}
-use Rattle.rank_defs.specs.declared.Ask.{Ask}
-use Rattle.rank_defs.specs.Asks.{Replays}
-use Rattle.rank_defs.specs.PrintedOrder.{printed_order}
-use Rattle.rank_defs.specs.Rounds.{Round, entry_at, printed_turns}
-use Rattle.rank_defs.specs.Labels.{values_at, label_of, marked_point}
+use Rattle.sf_defs.specs.declared.Op.TheVariants.{Sum}
+use Rattle.sf_defs.specs.declared.Ask.{Ask}
+use Rattle.sf_defs.specs.Asks.{Replays}
+use Rattle.sf_defs.specs.PrintedOrder.{printed_order}
+use Rattle.sf_defs.specs.Rounds.{Round, entry_at, printed_turns}
+use Rattle.plex_defs.specs.Labels.{values_at, label_of, marked_point}
 use Rattle.rank_defs.specs.Home.{IsNumberRound, number_asks, bases_of}
 use Rattle.rank_defs.specs.Ranks.{least, rank_of, assigned, held_cells, held, ranks_at, owner, owned}
 use Rattle.rank_laws.proofs.Lists.{least-bound}

@@ -1,7 +1,7 @@
 -- The text of a step depends on the rounds up to its part alone.
 use Rattle.std.proofs.Common.{◌≡◌, ℕ, ◌+◌, ◌<◌, List, take, get_or, sym, ap, ◌∙◌, arith}
 use Rattle.std.proofs.lemmas.List.{get_or-take}
-use Rattle.rank_defs.specs.Rounds.{Round}
+use Rattle.sf_defs.specs.Rounds.{Round}
 use Rattle.headline_defs.specs.States.{State}
 use Rattle.headline_defs.specs.StepText.{Subject, step_lines, step_text, home_round, number_round}
 

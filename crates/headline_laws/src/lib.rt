@@ -9,7 +9,7 @@ ghost use Rattle.mesh_defs.specs.Mesh.{Mesh, placed_cells};
 ghost use Rattle.mesh_defs.specs.Points.{Point, Sight, point_of, shows};
 ghost use Rattle.mesh_defs.specs.Diagram.{strata, chart, cone, IsAccepted};
 ghost use Rattle.text_defs.specs.Text.{number_of, plain_text};
-ghost use Rattle.rank_defs.specs.Rounds.{Round};
+ghost use Rattle.sf_defs.specs.Rounds.{Round};
 ghost use Rattle.rank_defs.specs.Ranks.{IsAssignment};
 ghost use Rattle.rank_defs.specs.Home.{IsNumberRound, bases_of, number};
 ghost use Rattle.rank_laws.specs.Conditions.{IsFlatOrSolid, IsSoundMesh, in_some};

@@ -1,8 +1,8 @@
 -- Worked rows: forms that a mesh file may take, and the first of several faults.
 use Rattle.std.proofs.Common.{◌≡◌, ℕ, true, false, List, [], ◌∷◌, ◌++◌, map, pos, negsuc, Some, None, Ok, Err, refl}
 use Rattle.std.specs.Prelude.{Result, codes, replicate, flat_map}
-use Rattle.text_defs.specs.Rows.{lines_of}
-use Rattle.text_defs.specs.Content.{Content}
+use Rattle.line_defs.specs.Rows.{lines_of}
+use Rattle.input_defs.specs.Content.{Content}
 use Rattle.mesh_defs.specs.Mesh.{Section}
 use Rattle.mesh_defs.specs.declared.Place.TheVariants as place
 use Rattle.scan_defs.specs.Lines.{line_number, lines_from, is_indent}

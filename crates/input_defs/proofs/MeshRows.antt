@@ -1,10 +1,10 @@
 -- Worked rows: the meshes of small files, and why some contents have none.
 use Rattle.std.proofs.Common.{◌≡◌, ℕ, List, [], ◌∷◌, ◌++◌, map, ℤ, pos, negsuc, Option, Some, None, Ok, Err, refl}
 use Rattle.std.specs.Prelude.{Result, codes}
-use Rattle.text_defs.specs.Rows.{lines_of}
-use Rattle.text_defs.specs.Content.{Content}
+use Rattle.line_defs.specs.Rows.{lines_of}
+use Rattle.input_defs.specs.Content.{Content}
 use Rattle.mesh_defs.specs.declared.Poly.TheVariants.{Triangle, Tet}
-use Rattle.mesh_defs.specs.Lists.{sorted}
+use Rattle.plain_lists.specs.Lists.{sorted}
 use Rattle.mesh_defs.specs.Orientation.{rotations, reflections, orientations, corners_under, act, relative}
 use Rattle.mesh_defs.specs.Mesh.{Mesh, Row, Section}
 use Rattle.mesh_defs.specs.Points.{sights_of, contains}
@@ -12,7 +12,7 @@ use Rattle.scan_defs.specs.Lines.{line_number, lines_from, is_indent}
 use Rattle.scan_defs.specs.Items.{name_of, tokens_on, items_on, items_of, ahead}
 use Rattle.scan_defs.specs.Quotes.{quoted_on}
 use Rattle.scan_defs.specs.Numbers.{uint_of, int_of, decimal_of, scaled, fixed_value, fixed_of}
-use Rattle.rank_defs.specs.Fields.{row_values}
+use Rattle.plex_defs.specs.Fields.{row_values}
 use Rattle.input_defs.specs.declared.MshFault.{MshFault}
 use Rattle.input_defs.specs.declared.MeshFault.{MeshFault}
 use Rattle.input_defs.specs.declared.MeshFault.TheVariants.{NoCells, CellTwist}

@@ -2,7 +2,7 @@
 use Rattle.std.proofs.Common.{◌≡◌, ℕ, true, false, List, [], ◌∷◌, ◌++◌, map, pos, Option, Some, Ok, refl}
 use Rattle.std.specs.Prelude.{codes}
 use Rattle.std.specs.Result.{result_err}
-use Rattle.text_defs.specs.Rows.{lines_of}
+use Rattle.line_defs.specs.Rows.{lines_of}
 use Rattle.scan_defs.specs.Lines.{line_number, lines_from, is_indent}
 use Rattle.scan_defs.specs.Items.{name_of, tokens_on, items_on, items_of, ahead}
 use Rattle.scan_defs.specs.Quotes.{quoted_on}

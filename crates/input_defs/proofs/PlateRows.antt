@@ -1,21 +1,21 @@
 -- Worked rows: a square plate with a round hole, its lines ended by CR LF. Node 5 is the centre of the hole and in no cell.
 use Rattle.std.proofs.Common.{◌≡◌, ℕ, List, [], ◌∷◌, ◌++◌, pos, negsuc, Ok, refl}
 use Rattle.std.specs.Prelude.{codes}
-use Rattle.text_defs.specs.Rows.{lines_of}
+use Rattle.line_defs.specs.Rows.{lines_of}
 use Rattle.scan_defs.specs.Lines.{line_number, lines_from, is_indent}
 use Rattle.scan_defs.specs.Items.{name_of, tokens_on, items_on, items_of, ahead}
 use Rattle.scan_defs.specs.Quotes.{quoted_on}
 use Rattle.scan_defs.specs.Numbers.{uint_of, int_of, decimal_of, scaled, fixed_value, fixed_of}
-use Rattle.rank_defs.specs.Fields.{row_values}
+use Rattle.plex_defs.specs.Fields.{row_values}
 use Rattle.input_defs.specs.Bodies.{lexeme_of}
 use Rattle.input_defs.specs.Sections.{format, name, names, node, nodes_behind, nodes, element, elements}
 use Rattle.input_defs.specs.DataSections.{row, section, section_of}
 use Rattle.input_defs.specs.Files.{blocks_of, misplaced, unfinished, with_section, step, said, content}
-use Rattle.mesh_defs.specs.Lists.{sorted}
+use Rattle.plain_lists.specs.Lists.{sorted}
 use Rattle.mesh_defs.specs.Orientation.{rotations, reflections, orientations, corners_under, act, relative}
 use Rattle.mesh_defs.specs.Points.{sights_of, contains}
 use Rattle.input_defs.specs.Meshes.{kept, greatest_dim, vertex_nodes, cell_elements, cells_of, marks_of, loose_elements, section_on, mesh_of, twist, accepted}
-use Rattle.text_defs.specs.Content.{Content}
+use Rattle.input_defs.specs.Content.{Content}
 use Rattle.mesh_defs.specs.declared.Poly.TheVariants.{Triangle}
 use Rattle.mesh_defs.specs.Mesh.{Mesh, Name}
 

@@ -1,17 +1,17 @@
 -- Worked rows: the refusal of words, plan bytes and mesh bytes, with its status and its line.
 use Rattle.std.proofs.Common.{◌≡◌, ℕ, true, List, [], ◌∷◌, ◌++◌, map, Option, Some, None, Err, refl}
 use Rattle.std.specs.Prelude.{codes}
-use Rattle.text_defs.specs.Rows.{lines_of, tokens_of}
+use Rattle.line_defs.specs.Rows.{lines_of, tokens_of}
 use Rattle.scan_defs.specs.Lines.{line_number, lines_from, is_indent}
 use Rattle.scan_defs.specs.Items.{name_of, tokens_on, items_on, items_of, ahead}
 use Rattle.scan_defs.specs.Quotes.{quoted_on}
 use Rattle.scan_defs.specs.Numbers.{uint_of, int_of, decimal_of, scaled, fixed_value, fixed_of}
-use Rattle.rank_defs.specs.Fields.{row_values}
+use Rattle.plex_defs.specs.Fields.{row_values}
 use Rattle.input_defs.specs.Bodies.{lexeme_of}
 use Rattle.input_defs.specs.Sections.{format, name, names, node, nodes_behind, nodes, element, elements}
 use Rattle.input_defs.specs.DataSections.{row, section, section_of}
 use Rattle.input_defs.specs.Files.{blocks_of, misplaced, unfinished, with_section, step, said, content}
-use Rattle.mesh_defs.specs.Lists.{sorted}
+use Rattle.plain_lists.specs.Lists.{sorted, same_list}
 use Rattle.mesh_defs.specs.Orientation.{rotations, reflections, orientations, corners_under, act, relative}
 use Rattle.mesh_defs.specs.Points.{sights_of, first_sight, arrangement, contains}
 use Rattle.mesh_defs.specs.Diagram.{seen_under, twist_key}
@@ -21,7 +21,6 @@ use Rattle.input_defs.specs.Words.{made_of, with_word, request_from, request}
 use Rattle.input_defs.specs.Generated.{grid_points, grid_cells, corners_at, cells_at, made}
 use Rattle.std.specs.Prelude.{find, option_map, replicate, nat_lt, length}
 use Rattle.std.specs.Fmt.{digits}
-use Rattle.mesh_defs.specs.Lists.{same_list}
 use Rattle.text_defs.specs.Text.{line}
 use Rattle.text_defs.specs.Refusals.{most_bytes, words_refused, read_refused, too_long_refused}
 use Rattle.input_defs.specs.declared.Status.{Status}

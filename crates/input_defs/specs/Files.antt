@@ -2,9 +2,9 @@
 use Rattle.std.specs.Prelude.{ℕ, Bool, true, false, not, ◌||◌, nat_le, if◌then◌else◌, List, [], ◌∷◌, ◌++◌, length, map, take, find, codes, Option, Some, None, option_map, is_some, is_none, unwrap_or, Result, Ok, Err}
 use Rattle.mesh_defs.specs.declared.Place.{Place}
 use Rattle.mesh_defs.specs.declared.Place.TheVariants as place
-use Rattle.mesh_defs.specs.Lists.{same_list}
+use Rattle.plain_lists.specs.Lists.{same_list}
 use Rattle.mesh_defs.specs.Mesh.{Name, Section}
-use Rattle.text_defs.specs.Content.{Node, Element, Content}
+use Rattle.input_defs.specs.Content.{Node, Element, Content}
 use Rattle.scan_defs.specs.Lines.{line_number}
 use Rattle.scan_defs.specs.Items.{Item, Header, Word, text_of, items, body}
 use Rattle.input_defs.specs.declared.What.TheVariants as what

@@ -3,7 +3,7 @@ use Rattle.std.specs.Prelude.{ℕ, ◌+◌, ◌*◌, ◌^◌, ◌==◌, if◌the
 use Rattle.mesh_defs.specs.declared.Poly.{Poly}
 use Rattle.mesh_defs.specs.declared.Poly.TheVariants as poly
 use Rattle.mesh_defs.specs.Tables.{dim_of}
-use Rattle.mesh_defs.specs.Lists.{below, picked}
+use Rattle.plain_lists.specs.Lists.{below, picked}
 use Rattle.mesh_defs.specs.Mesh.{Mesh, Cell}
 use Rattle.input_defs.specs.declared.Kind.{Kind}
 use Rattle.input_defs.specs.declared.Kind.TheVariants.{Tri, Quad, Tet, Hex}

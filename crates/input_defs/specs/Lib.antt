@@ -1,4 +1,5 @@
 pub mod Causes
+pub mod Content
 pub mod Bodies
 pub mod Sections
 pub mod DataSections

@@ -5,12 +5,12 @@ use Rattle.mesh_defs.specs.declared.Poly.{Poly}
 use Rattle.mesh_defs.specs.declared.Poly.TheVariants.{Vertex}
 use Rattle.mesh_defs.specs.declared.Place.{Place}
 use Rattle.mesh_defs.specs.declared.Place.TheVariants as place
-use Rattle.mesh_defs.specs.Lists.{same_list, sorted}
+use Rattle.plain_lists.specs.Lists.{same_list, sorted}
 use Rattle.mesh_defs.specs.Tables.{dim_of}
 use Rattle.mesh_defs.specs.Orientation.{relative}
 use Rattle.mesh_defs.specs.Mesh.{Mesh, Cell, Mark, Row, Section}
 use Rattle.mesh_defs.specs.Points.{Point, point_on, contains}
-use Rattle.text_defs.specs.Content.{Node, Element, Content}
+use Rattle.input_defs.specs.Content.{Node, Element, Content}
 use Rattle.input_defs.specs.declared.MeshFault.{MeshFault}
 use Rattle.input_defs.specs.declared.MeshFault.TheVariants.{NoCells, TooManyCells, CellTwist}
 use Rattle.input_defs.specs.Causes.{unless}

@@ -5,7 +5,7 @@ use Rattle.mesh_defs.specs.declared.Poly.{Poly}
 use Rattle.mesh_defs.specs.declared.Poly.TheVariants.{Vertex, Segment, Triangle, Quad, Tet, Hex}
 use Rattle.mesh_defs.specs.Tables.{corner_count}
 use Rattle.mesh_defs.specs.Mesh.{Name}
-use Rattle.text_defs.specs.Content.{Node, Element}
+use Rattle.input_defs.specs.Content.{Node, Element}
 use Rattle.scan_defs.specs.declared.NumberFault.{NumberFault}
 use Rattle.scan_defs.specs.declared.NumberFault.TheVariants as numbers
 use Rattle.scan_defs.specs.Numbers.{uint_of, fixed_of}

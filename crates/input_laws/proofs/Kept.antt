@@ -4,9 +4,9 @@ use Rattle.std.specs.Prelude.{find, filter, nat_lt, length}
 use Rattle.std.specs.List.{list_any, AllByRecursion}
 use Rattle.std.specs.Cmp.Lexicographic.{same_text}
 use Rattle.std.proofs.lemmas.Bool.{or_parts, and_parts, eqb-true, cond-true, cond-false, eq-eqb}
-use Rattle.mesh_defs.specs.Lists.{sorted, same_list}
+use Rattle.plain_lists.specs.Lists.{sorted, same_list}
 use Rattle.mesh_defs.specs.Mesh.{Mesh}
-use Rattle.text_defs.specs.Content.{Element, Content}
+use Rattle.input_defs.specs.Content.{Element, Content}
 use Rattle.input_defs.specs.declared.MeshFault.TheVariants.{NoCells, TooManyCells}
 use Rattle.input_defs.specs.Causes.{unless}
 use Rattle.input_defs.specs.Meshes.{dim, same_nodes, same_place, kept_behind, kept, is_top, greatest_dim, cell_elements, mesh_of, twist, accepted}

@@ -3,9 +3,9 @@ use Rattle.std.proofs.Common.{◌≡◌, Bool, true, Ok, sym, ap, ◌∙◌, sub
 use Rattle.std.specs.Prelude.{map, filter, ◌&&◌}
 use Rattle.std.specs.List.{AllByRecursion}
 use Rattle.std.proofs.lemmas.Bool.{and_parts}
-use Rattle.mesh_defs.specs.Lists.{sorted}
+use Rattle.plain_lists.specs.Lists.{sorted}
 use Rattle.mesh_defs.specs.Mesh.{Mesh, Mark}
-use Rattle.text_defs.specs.Content.{Element, Content}
+use Rattle.input_defs.specs.Content.{Element, Content}
 use Rattle.input_defs.specs.Meshes.{dim, is_top, greatest_dim, vertex_nodes, cell_elements, cell_of, cells_of, kept, is_labelled, is_point, point_of_element, mark_of, marks_of, mesh_of, accepted}
 use Rattle.mesh_laws.proofs.Places.{all_map, all_weaker}
 use Rattle.input_laws.proofs.Kept.{accepted-mesh, all_passing}

@@ -6,7 +6,7 @@ use Rattle.std.proofs.lemmas.Grind.{flat_map-append}
 use Rattle.std.proofs.lemmas.List.{map-append, take-append-drop, take-append-le, length-take}
 use Rattle.std.proofs.lemmas.List.Sums.{sum_by-cons}
 use Rattle.std.proofs.Math.Seq.{take-length}
-use Rattle.text_defs.specs.Rows.{is_newline, parts, onto_first, lines_of}
+use Rattle.line_defs.specs.Rows.{is_newline, parts, onto_first, lines_of}
 use Rattle.scan_defs.specs.declared.Token.{Token}
 use Rattle.scan_defs.specs.Lines.{Line, lines_at, line_number, lines_from, is_indent}
 use Rattle.scan_defs.specs.Items.{Item, Header, Word, text_of, items_on, items_of, ahead, items, body}

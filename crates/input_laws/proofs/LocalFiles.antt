@@ -2,9 +2,9 @@
 use Rattle.std.proofs.Common.{◌≡◌, ℕ, ◌<◌, ◌≤◌, Bool, true, false, cond, not, List, [], ◌∷◌, ◌++◌, Option, Some, None, Ok, Err, refl, sym, ap, ap₂, ◌∙◌, subst, arith}
 use Rattle.std.specs.Prelude.{Result, find, option_map, is_none}
 use Rattle.std.specs.List.{AllByRecursion}
-use Rattle.mesh_defs.specs.Lists.{same_list}
+use Rattle.plain_lists.specs.Lists.{same_list}
 use Rattle.mesh_defs.specs.declared.Place.TheVariants as place
-use Rattle.text_defs.specs.Content.{Content}
+use Rattle.input_defs.specs.Content.{Content}
 use Rattle.input_defs.specs.declared.DataFault.{DataFault}
 use Rattle.input_defs.specs.declared.DataFault.TheVariants as data_fault
 use Rattle.input_defs.specs.declared.MshFault.{MshFault}

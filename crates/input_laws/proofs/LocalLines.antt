@@ -5,7 +5,7 @@ use Rattle.std.specs.List.{AllByRecursion, before_first, position_or_len}
 use Rattle.std.proofs.lemmas.Bool.{and_parts, leb-true, eqb-true, cases_lt}
 use Rattle.std.proofs.lemmas.List.{drop-append-le, take-append-le, length-take}
 use Rattle.std.proofs.Math.Seq.{drop-append-add}
-use Rattle.text_defs.specs.Rows.{is_blank, is_newline, parts, onto_first, lines_of, is_some_bytes}
+use Rattle.line_defs.specs.Rows.{is_blank, is_newline, parts, onto_first, lines_of, is_some_bytes}
 use Rattle.scan_defs.specs.declared.Token.{Token}
 use Rattle.scan_defs.specs.Lines.{Line, lines_at, rest_of_line, front, back}
 use Rattle.scan_defs.specs.Items.{Item, Header, Word, text_of, is_header, name_of, tokens_at, tokens_on, words_on, items_on}

@@ -4,7 +4,7 @@ use Rattle.std.specs.Prelude.{Result, Contains, nat_lt, is_none}
 use Rattle.std.specs.List.{AllByRecursion}
 use Rattle.std.proofs.lemmas.Bool.{or_parts, eqb-false, leb-false, not-false}
 use Rattle.std.proofs.Math.Nat.{div-lt_iff_lt-mul, mod-lt, mul-lt-mul_of_pos_right, mul_comm}
-use Rattle.text_defs.specs.Rows.{lines_of, tokens_of}
+use Rattle.line_defs.specs.Rows.{lines_of, tokens_of}
 use Rattle.input_defs.specs.declared.PlanFault.{PlanFault}
 use Rattle.input_defs.specs.declared.PlanFault.TheVariants.{Word, Ranks}
 use Rattle.input_defs.specs.Plans.{Plan, Spread, Block, Stripe, Listed, Part, Layers, Form, IsRanks, IsMove, IsDofs, IsShow, Before, at_first, both, form_of, with_form, with_line, plan_with, plan_from, plan_of, rank_by, ranks_above, misfits, misfit}

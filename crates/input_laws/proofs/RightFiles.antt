@@ -8,7 +8,7 @@ use Rattle.scan_defs.specs.declared.NumberFault.{NumberFault}
 use Rattle.scan_defs.specs.Lines.{line_number}
 use Rattle.scan_defs.specs.Items.{items}
 use Rattle.scan_defs.specs.Numbers.{uint_of}
-use Rattle.text_defs.specs.Content.{Node, Element, Content}
+use Rattle.input_defs.specs.Content.{Node, Element, Content}
 use Rattle.input_defs.specs.declared.What.TheVariants as what
 use Rattle.input_defs.specs.declared.MshFault.{MshFault}
 use Rattle.input_defs.specs.declared.MshFault.TheVariants.{ElementType, UnknownNode, RepeatedNode, BadCount, Unclosed, Header}
@@ -17,7 +17,7 @@ use Rattle.input_defs.specs.Bodies.{Lexeme, Faults, Reader, uint, int, give, ◌
 use Rattle.input_defs.specs.Sections.{has, faults_of, count, poly_of_type, corners_of_type, corners_behind, element, elements}
 use Rattle.input_defs.specs.Files.{Block, blocks_of, Known, Format, Names, Nodes, Elements, Data, known, Parts, nothing, causes, misplaced, unfinished, numbers_on, with_section, ending, cut_short, closes, Due, Opening, Closing, Skipping, is_wrong_header, begun, step, content_of, finished, said, content}
 use Rattle.input_laws.proofs.Causes.{unless-ok, first_cause-none, bind-ok, bind}
-use Rattle.text_defs.specs.Triangles.{differ_as_sets}
+use Rattle.plain_lists.specs.Lists.{differ_as_sets}
 use Rattle.input_defs.specs.Meshes.{accepted}
 use Rattle.input_laws.proofs.Labels.{cells-made}
 use Rattle.input_laws.proofs.Sets.{AreKnown, numbers_of, cells-sets}

@@ -4,10 +4,9 @@ use Rattle.std.specs.Prelude.{filter}
 use Rattle.std.specs.List.{list_any, AllByRecursion}
 use Rattle.std.specs.Cmp.Lexicographic.{same_text}
 use Rattle.std.proofs.lemmas.Bool.{le-leb, lt-leb, cases_lt, eqb-true, eq-eqb, or_left, or_right, and_parts, or_parts, not-true, cond-true, cond-false}
-use Rattle.mesh_defs.specs.Lists.{sorted, inserted, same_list}
+use Rattle.plain_lists.specs.Lists.{sorted, inserted, same_list, differ_as_sets}
 use Rattle.mesh_defs.specs.Mesh.{Cell}
-use Rattle.text_defs.specs.Content.{Node, Element, Content}
-use Rattle.text_defs.specs.Triangles.{differ_as_sets}
+use Rattle.input_defs.specs.Content.{Node, Element, Content}
 use Rattle.input_defs.specs.Sections.{has}
 use Rattle.input_defs.specs.Meshes.{dim, is_top, greatest_dim, same_place, kept_behind, kept, vertex_nodes, vertex_of, cell_of, cell_elements}
 use Rattle.mesh_laws.proofs.Places.{all_both, all_weaker, all_filter, any_map}

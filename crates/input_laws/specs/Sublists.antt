@@ -1,7 +1,7 @@
 -- Lists within lists, and elements at different places.
 use Rattle.std.specs.Prelude.{◌≡◌, ◌⊎◌, Bool, true, not, ◌&&◌, List, [], ◌∷◌}
 use Rattle.std.specs.List.{list_any}
-use Rattle.text_defs.specs.Content.{Element}
+use Rattle.input_defs.specs.Content.{Element}
 use Rattle.input_defs.specs.Meshes.{same_place}
 
 -- xs is ys without some of its entries, in the same order

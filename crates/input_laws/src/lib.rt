@@ -5,12 +5,11 @@
 
 ghost use Rattle.std.specs.Prelude.{◌≡◌, ◌<◌, ◌≤◌, ℕ, List, [], ◌∷◌, ◌++◌, length, take, Ok, Err, None, Some, Contains, map, find, true};
 ghost use Rattle.std.specs.List.{AllByRecursion};
-ghost use Rattle.mesh_defs.specs.Lists.{sorted};
+ghost use Rattle.plain_lists.specs.Lists.{sorted, differ_as_sets};
 ghost use Rattle.mesh_defs.specs.Mesh.{Mesh, Cell, Mark};
-ghost use Rattle.text_defs.specs.Rows.{lines_of};
+ghost use Rattle.line_defs.specs.Rows.{lines_of};
 ghost use Rattle.text_defs.specs.Text.{plain_text};
-ghost use Rattle.text_defs.specs.Triangles.{differ_as_sets};
-ghost use Rattle.text_defs.specs.Content.{Element, Content};
+ghost use Rattle.input_defs.specs.Content.{Element, Content};
 ghost use Rattle.input_defs.specs.declared.MshFault.{MshFault};
 ghost use Rattle.input_defs.specs.Files.{content};
 ghost use Rattle.input_defs.specs.Further.{full_text};

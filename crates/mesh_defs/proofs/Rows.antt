@@ -4,7 +4,7 @@ use Rattle.std.specs.Prelude.{count_by, sum_by, ◌==◌, ◌&&◌, ◌%◌, tak
 use Rattle.mesh_defs.specs.declared.Poly.{Poly}
 use Rattle.mesh_defs.specs.declared.Poly.TheVariants.{Vertex, Segment, Triangle, Quad, Tet, Hex}
 use Rattle.mesh_defs.specs.declared.ConeEntry.{ConeEntry}
-use Rattle.mesh_defs.specs.Lists.{below, sorted}
+use Rattle.plain_lists.specs.Lists.{below, sorted}
 use Rattle.mesh_defs.specs.Tables.{edges_of, facets_of}
 use Rattle.mesh_defs.specs.Orientation.{rotations, reflections, orientations, corners_under, act, relative}
 use Rattle.mesh_defs.specs.Mesh.{Mesh, Cell, placed_cells}

@@ -3,7 +3,7 @@ use Rattle.std.specs.Prelude.{◌≡◌, ℕ, ◌&&◌, ◌==◌, if◌then◌el
 use Rattle.std.specs.List.{list_any, position_or_len}
 use Rattle.mesh_defs.specs.declared.Poly.{Poly}
 use Rattle.mesh_defs.specs.declared.ConeEntry.{ConeEntry}
-use Rattle.mesh_defs.specs.Lists.{picked}
+use Rattle.plain_lists.specs.Lists.{picked}
 use Rattle.mesh_defs.specs.Tables.{Facet, dim_of, facets_of}
 use Rattle.mesh_defs.specs.Orientation.{relative}
 use Rattle.mesh_defs.specs.Mesh.{Mesh, Cell, placed_cells}

@@ -1,6 +1,6 @@
-pub mod Lists
 pub mod Tables
 pub mod Orientation
 pub mod Mesh
 pub mod Points
+pub mod Sights
 pub mod Diagram

@@ -4,7 +4,7 @@ use Rattle.std.specs.Prelude.{ℕ, zero, suc, ◌+◌, ◌-◌, ◌%◌, Bool, n
 use Rattle.std.specs.List.{list_any, list_all, enumerate_from}
 use Rattle.mesh_defs.specs.declared.Poly.{Poly}
 use Rattle.mesh_defs.specs.declared.Poly.TheVariants.{Vertex, Segment, Triangle, Quad, Tet, Hex}
-use Rattle.mesh_defs.specs.Lists.{below, same_list, picked}
+use Rattle.plain_lists.specs.Lists.{below, same_list, picked}
 use Rattle.mesh_defs.specs.Tables.{edges_of, facets_of}
 
 -- the corners of an n-gon from corner o on, in its sense

@@ -3,7 +3,7 @@ use Rattle.std.specs.Prelude.{ℕ, ◌+◌, ◌*◌, Bool, ◌&&◌, ◌==◌, i
 use Rattle.std.specs.List.{list_any, enumerate_from}
 use Rattle.mesh_defs.specs.declared.Poly.{Poly}
 use Rattle.mesh_defs.specs.declared.Poly.TheVariants.{Vertex, Segment}
-use Rattle.mesh_defs.specs.Lists.{below, same_list, sorted, picked}
+use Rattle.plain_lists.specs.Lists.{below, same_list, sorted, picked}
 use Rattle.mesh_defs.specs.Tables.{dim_of, edges_of, facets_of}
 use Rattle.mesh_defs.specs.Mesh.{Mesh, Cell, placed_cells}
 

@@ -7,11 +7,11 @@ use Rattle.std.specs.Cmp.Lexicographic.{same_text}
 use Rattle.std.proofs.lemmas.List.{map-append}
 use Rattle.mesh_defs.specs.Tables.{dim_of}
 use Rattle.mesh_defs.specs.declared.Poly.TheVariants.{Segment}
-use Rattle.mesh_defs.specs.Lists.{same_list, sorted}
+use Rattle.plain_lists.specs.Lists.{same_list, sorted}
 use Rattle.mesh_defs.specs.Orientation.{relative}
 use Rattle.mesh_defs.specs.Points.{Sight, point_of, shows}
 use Rattle.mesh_defs.specs.Diagram.{firsts}
-use Rattle.mesh_laws.specs.TriangleMesh.{IsEdgeEntry, IsEdgeSight, edge_sight, entry_among, edge_key}
+use Rattle.mesh_defs.specs.Sights.{IsEdgeEntry, IsEdgeSight, edge_sight, entry_among, edge_key}
 use Rattle.mesh_laws.proofs.Places.{any_agree, position_agree, any_map, position_map, all_weaker, find-append_found, find-append_none, position-append_found, position-append_none, position-within}
 use Rattle.mesh_laws.proofs.Firsts.{firsts-push, firsts-all, same_list-self, shows-own, list_any-firsts, firsts-prefix}
 use Rattle.mesh_laws.proofs.Turns.{sorted-two, sorted-min_max, relative-segment_same, relative-segment_turned, relative-segment_cases, find-passes}

@@ -4,10 +4,10 @@ use Rattle.std.specs.Prelude.{◌||◌, ◌==◌, not, find, if◌then◌else◌
 use Rattle.std.specs.List.{list_any, AllByRecursion}
 use Rattle.std.specs.Cmp.Lexicographic.{same_text}
 use Rattle.std.proofs.lemmas.Bool.{and_parts, eqb-true, eq-eqb, both_ways, cond-true, cond-false, not-true, or_right, or_from}
-use Rattle.mesh_defs.specs.Lists.{same_list}
+use Rattle.plain_lists.specs.Lists.{same_list}
 use Rattle.mesh_defs.specs.Points.{Point, Sight, same_point, point_of, shows}
 use Rattle.mesh_defs.specs.Diagram.{firsts_after, firsts}
-use Rattle.mesh_laws.specs.TriangleMesh.{points_differ}
+use Rattle.mesh_defs.specs.Sights.{points_differ}
 use Rattle.mesh_laws.proofs.Places.{all_both, all_weaker, all_from, each_fails}
 
 -- ---- the same point

@@ -5,7 +5,7 @@ use Rattle.std.specs.List.{AllByRecursion, enumerate_from}
 use Rattle.std.proofs.lemmas.Bool.{ne_eqb, and_left, both_ways}
 use Rattle.mesh_defs.specs.declared.Poly.{Poly}
 use Rattle.mesh_defs.specs.declared.Poly.TheVariants.{Vertex, Segment, Triangle, Quad, Tet, Hex}
-use Rattle.mesh_defs.specs.Lists.{below, picked, same_list, sorted}
+use Rattle.plain_lists.specs.Lists.{below, picked, same_list, sorted}
 use Rattle.mesh_defs.specs.Tables.{Facet, dim_of, facets_of, edges_of}
 use Rattle.mesh_defs.specs.Orientation.{act, relative}
 use Rattle.mesh_defs.specs.Mesh.{Mesh, Cell, placed_cells}

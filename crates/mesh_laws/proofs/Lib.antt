@@ -3,7 +3,6 @@ pub mod Firsts
 pub mod Turns
 pub mod Entries
 pub mod Containing
-pub mod TriangleDiagram
+pub mod Vertices
 pub mod Monotone
-pub mod TriangleContent
 pub mod Keys

@@ -2,8 +2,7 @@
 use Rattle.std.proofs.Common.{◌≡◌, ℕ, ◌<◌, Bool, true, false, cond, not, ◌&&◌, ◌||◌, ◌==◌, nat_le, List, [], ◌∷◌, map, refl, ap, ap₂, ◌∙◌, ⊎_elim, arith}
 use Rattle.std.specs.List.{list_any, AllByRecursion}
 use Rattle.std.proofs.lemmas.Bool.{eqb-true, eq-eqb, leb-true, le-leb, cases_lt}
-use Rattle.mesh_defs.specs.Lists.{same_list, inserted, sorted}
-use Rattle.text_defs.specs.Triangles.{differ_as_sets}
+use Rattle.plain_lists.specs.Lists.{same_list, inserted, sorted, differ_as_sets}
 use Rattle.mesh_laws.proofs.Firsts.{same_tests}
 
 -- what all numbers have, they have in order

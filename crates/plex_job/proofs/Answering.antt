@@ -6,7 +6,7 @@ use Rattle.cause_defs.specs.Faults.{Rises}
 use Rattle.cause_defs.specs.Written.{appended}
 use Rattle.cause_defs.proofs.Rising.{Rises-earlier}
 use Rattle.cause_defs.proofs.Appending.{AppendsPart-whole}
-use Rattle.text_defs.specs.Triangles.{triangles}
+use Rattle.triangle_defs.specs.Triangles.{triangles}
 use Rattle.text_defs.specs.Refusals.{most_bytes, words_refused, too_long_refused}
 use Rattle.plex_job.specs.declared.status.Status.{Status}
 use Rattle.plex_job.specs.declared.status.Status.TheVariants.{Done, Words, Mesh, ReadFault, WriteFault, NoMemory, TooLong}

@@ -6,7 +6,7 @@ use Rattle.std.proofs.Math.Nat.{mod-lt, div-lt_iff_lt-mul, pow-succ'}
 use Rattle.std.proofs.lemmas.Fmt.{decimal_digit}
 use Rattle.std.proofs.lemmas.Bool.{eqb-true}
 use Rattle.std.proofs.lemmas.List.{append-nil}
-use Rattle.text_defs.specs.Numbers.{fraction_digits}
+use Rattle.line_defs.specs.Numbers.{fraction_digits}
 
 -- no digit stands for nothing
 pub fraction_digits-zero : (places : ℕ) → fraction_digits places 0 ≡ []

@@ -5,20 +5,20 @@ use Rattle.std.specs.List.{enumerate_from, AllByRecursion}
 use Rattle.std.proofs.lemmas.List.{append-nil, get_or-map, length-map}
 use Rattle.std.proofs.lemmas.List.Concat.{flat_map-append}
 use Rattle.std.proofs.lemmas.List.FromFn.{length-enumerate_from}
-use Rattle.mesh_defs.specs.Lists.{below}
+use Rattle.plain_lists.specs.Lists.{below}
 use Rattle.mesh_defs.specs.Mesh.{Mesh, placed_cells}
 use Rattle.mesh_defs.specs.Points.{Sight, vertex_sight}
 use Rattle.mesh_defs.specs.Diagram.{Diagram, chart, cone, place_in, diagram, count_in}
-use Rattle.text_defs.specs.Content.{Content}
-use Rattle.text_defs.specs.Triangles.{triangle_mesh}
+use Rattle.input_defs.specs.Content.{Content}
+use Rattle.triangle_defs.specs.Triangles.{triangle_mesh}
 use Rattle.text_defs.specs.Text.{alone, number_of, mesh_line, ranks_line, step_line, rank_line, total_line, point_line, head_text, rank_text, total_text, point_text, points_text, step_text, end_line, plain_text}
 use Rattle.plex_base.specs.declared.key.PointKey.{PointKey}
 use Rattle.plex_chart.specs.Chart.{point_at, no_point}
 use Rattle.plex_serial.specs.Keys.{key_at, Draws}
-use Rattle.mesh_laws.specs.TriangleMesh.{IsTriangleMesh, IsTriangleContent, triangle_diagram}
+use Rattle.triangle_laws.specs.TriangleMesh.{IsTriangleMesh, IsTriangleContent, triangle_diagram}
 use Rattle.mesh_laws.proofs.Places.{all_at}
-use Rattle.mesh_laws.proofs.TriangleDiagram.{chart-triangles, cones-alone, count-cells, count-vertices, count-edges, diagram-triangles}
-use Rattle.mesh_laws.proofs.TriangleContent.{triangle_mesh-is}
+use Rattle.triangle_laws.proofs.TriangleDiagram.{chart-triangles, cones-alone, count-cells, count-vertices, count-edges, diagram-triangles}
+use Rattle.triangle_laws.proofs.TriangleContent.{triangle_mesh-is}
 use Rattle.plex_job.specs.Drawing.{drawn_point, drawn_points, drawn_head, drawn_text}
 
 -- ---- texts of items by their places

@@ -3,8 +3,8 @@ use Rattle.std.specs.Prelude.{◌≡◌, ℕ, ◌+◌, ◌≤◌, nat_lt, if◌t
 use Rattle.cause_defs.specs.Told.{Told, untold, absent, told, IsWhereTold, IsFrontWhereTold}
 use Rattle.cause_defs.specs.Faults.{Rises}
 use Rattle.cause_defs.specs.Written.{appended, AppendsPart}
-use Rattle.text_defs.specs.Content.{Content}
-use Rattle.text_defs.specs.Triangles.{triangles, triangle_mesh}
+use Rattle.input_defs.specs.Content.{Content}
+use Rattle.triangle_defs.specs.Triangles.{triangles, triangle_mesh}
 use Rattle.text_defs.specs.Text.{plain_text}
 use Rattle.text_defs.specs.Refusals.{most_bytes, words_refused, read_refused, too_long_refused, not_yet_refused}
 use Rattle.plex_job.specs.declared.status.Status.{Status}

@@ -1,6 +1,6 @@
 -- The text of a diagram, line by line.
 use Rattle.std.specs.Prelude.{ℕ, List, [], length, get_or, ◌++◌, flat_map, ℤ}
-use Rattle.mesh_defs.specs.Lists.{below}
+use Rattle.plain_lists.specs.Lists.{below}
 use Rattle.mesh_defs.specs.Diagram.{Diagram}
 use Rattle.text_defs.specs.Text.{mesh_line, ranks_line, step_line, rank_line, total_line, point_line, end_line}
 use Rattle.plex_base.specs.declared.key.PointKey.{PointKey}

@@ -2,7 +2,7 @@
 
 ghost use Rattle.std.specs.Prelude.{◌≡◌, ◌++◌, ◌+◌, ◌^◌, ◌*◌, ◌<◌, string_bytes, OnOk, pos, ℤ, negsuc};
 ghost use Rattle.text_defs.specs.Text.{entry_text, at_text};
-ghost use Rattle.text_defs.specs.Numbers.{fixed_text, unsigned_fixed_text, fraction_digits};
+ghost use Rattle.line_defs.specs.Numbers.{fixed_text, unsigned_fixed_text, fraction_digits};
 
 use mesh_defs::ConeEntry;
 use std::alloc::AllocError;
@@ -35,7 +35,7 @@ fn push_fraction(line: &mut String, rest: u64) -> Result<(), AllocError>
     Ok(())
 }
 
-#[tactic(auto, unfolding(text_defs::specs::Numbers::unsigned_fixed_text))]
+#[tactic(auto, unfolding(line_defs::specs::Numbers::unsigned_fixed_text))]
 fn push_unsigned(line: &mut String, value: u64) -> Result<(), AllocError>
     ensures { OnOk result (string_bytes line.new ≡ string_bytes line.old ++ unsigned_fixed_text value) }
 {
@@ -49,7 +49,7 @@ fn push_unsigned(line: &mut String, value: u64) -> Result<(), AllocError>
 }
 
 /// A fixed-point value as its shortest decimal text.
-#[tactic(auto, unfolding(text_defs::specs::Numbers::fixed_text))]
+#[tactic(auto, unfolding(line_defs::specs::Numbers::fixed_text))]
 pub fn push_fixed(line: &mut String, value: i64) -> Result<(), AllocError>
     ensures { OnOk result (string_bytes line.new ≡ string_bytes line.old ++ fixed_text value) }
 {

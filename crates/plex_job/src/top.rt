@@ -4,7 +4,7 @@ ghost use Rattle.std.specs.Prelude.{◌≡◌, ◌≤◌, ◌⊎◌, ℕ, List, 
 ghost use Rattle.cause_defs.specs.Told.{told};
 ghost use Rattle.cause_defs.specs.Faults.{Rises};
 ghost use Rattle.cause_defs.specs.Written.{appended, AreFlushed};
-ghost use Rattle.text_defs.specs.Triangles.{triangles};
+ghost use Rattle.triangle_defs.specs.Triangles.{triangles};
 ghost use Rattle.plex_job.specs.declared.status.Status.{Status as Ending};
 ghost use Rattle.plex_job.specs.Words.{accepted_name, is_name};
 ghost use Rattle.plex_job.specs.Answer.{IsAnswer, HasFailed, AddsAnswer, AddsPart, verdict, verdict_on_content, OnAnswer, OnWriteFault, OnNoMemory, IsEndOf};
@@ -14,7 +14,7 @@ use crate::fault::ReportFault;
 use crate::outcome::{Outcome, write_outcome};
 use crate::refusal::Refusal;
 use crate::status::Status;
-use msh_reader::{MshFault, read_msh};
+use triangle_reader::{MshFault, read_msh};
 use plex_base::{MAX_FILE_BYTES, NoMemory};
 use plex_serial::interpolate;
 use shelf_io::{Failed, Shelf, ShelfFault, Sink};

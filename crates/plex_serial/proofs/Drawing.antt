@@ -5,14 +5,15 @@ use Rattle.std.proofs.lemmas.List.{length-map, map-append, map_push, map-id, get
 use Rattle.std.proofs.lemmas.List.FromFn.{map-range_with_len_more}
 use Rattle.mesh_defs.specs.declared.ConeEntry.{ConeEntry}
 use Rattle.mesh_defs.specs.declared.Poly.TheVariants.{Vertex}
-use Rattle.mesh_defs.specs.Lists.{below}
+use Rattle.plain_lists.specs.Lists.{below}
 use Rattle.mesh_defs.specs.Tables.{dim_of}
 use Rattle.mesh_defs.specs.Mesh.{Mesh, Cell, placed_cells}
 use Rattle.mesh_defs.specs.Points.{Sight, vertex_sight, vertex_sights}
 use Rattle.mesh_defs.specs.Diagram.{firsts, chart, place_in, cone, Covering, Diagram, diagram}
-use Rattle.mesh_laws.specs.TriangleMesh.{IsTriangle, IsTriangleMesh, IsEdgeSight, IsEdgeEntry, whole_sight, edge_sights, triangle_points, cell_cover, edge_cover, triangle_diagram}
+use Rattle.mesh_defs.specs.Sights.{IsEdgeSight, IsEdgeEntry}
+use Rattle.triangle_laws.specs.TriangleMesh.{IsTriangle, IsTriangleMesh, whole_sight, edge_sights, triangle_points, cell_cover, edge_cover, triangle_diagram}
 use Rattle.mesh_laws.proofs.Places.{all_weaker, all_from, all_append, all_map, all_at, map_map_same}
-use Rattle.mesh_laws.proofs.TriangleDiagram.{chart-triangles, edges-are, length-vertices, length-edges, entries-bounds, diagram-triangles}
+use Rattle.triangle_laws.proofs.TriangleDiagram.{chart-triangles, edges-are, length-vertices, length-edges, entries-bounds, diagram-triangles}
 use Rattle.plex_base.specs.declared.key.PointKey.{PointKey}
 use Rattle.plex_chart.specs.Chart.{point_at, no_point}
 use Rattle.plex_serial.specs.declared.edges.Edge.{Edge}

@@ -4,9 +4,9 @@ use Rattle.std.specs.List.{list_any, AllByRecursion}
 use Rattle.std.specs.Prelude.{slice_set}
 use Rattle.std.proofs.lemmas.Bool.{eq-eqb, ne_eqb, cases_eq}
 use Rattle.std.proofs.lemmas.List.{length-set, length-map, length-replicate, get_or-set_same, get_or-set_other, get_or-replicate, get_or-map, ext_get_or}
-use Rattle.text_defs.specs.Content.{Node, Element, Content}
-use Rattle.text_defs.specs.Triangles.{is_used}
-use Rattle.mesh_laws.specs.TriangleMesh.{AreNumbered, IsTriangleElement, IsTriangleContent}
+use Rattle.input_defs.specs.Content.{Node, Element, Content}
+use Rattle.triangle_defs.specs.Triangles.{is_used}
+use Rattle.triangle_laws.specs.TriangleMesh.{AreNumbered, IsTriangleElement, IsTriangleContent}
 use Rattle.plex_serial.specs.Marks.{flagged, flagged_by}
 
 -- flags stay as many

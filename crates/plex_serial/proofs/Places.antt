@@ -6,9 +6,9 @@ use Rattle.std.proofs.lemmas.Bool.{cond-true, cond-false}
 use Rattle.std.proofs.lemmas.List.{map_push, get_or-map, length-map}
 use Rattle.std.proofs.lemmas.List.Folds.{find_at}
 use Rattle.std.proofs.lemmas.Option.{slice_get-get_or}
-use Rattle.mesh_defs.specs.Lists.{same_list, sorted}
+use Rattle.plain_lists.specs.Lists.{same_list, sorted}
 use Rattle.mesh_defs.specs.Points.{point_of, shows}
-use Rattle.mesh_laws.specs.TriangleMesh.{IsEdgeSight, edge_sight, entry_among}
+use Rattle.mesh_defs.specs.Sights.{IsEdgeSight, edge_sight, entry_among}
 use Rattle.mesh_laws.proofs.Places.{any_map, all_at, position-none, position-within}
 use Rattle.mesh_laws.proofs.Entries.{entry_among-new, entry_among-found}
 use Rattle.plex_serial.specs.declared.edges.Edge.{Edge}

@@ -9,7 +9,7 @@ use Rattle.mesh_defs.specs.declared.Poly.TheVariants.{Vertex, Segment, Triangle}
 use Rattle.mesh_defs.specs.Tables.{Facet, facets_of}
 use Rattle.mesh_defs.specs.Orientation.{orientations, rotations, reflections}
 use Rattle.mesh_defs.specs.Diagram.{Covering, Diagram}
-use Rattle.mesh_laws.specs.TriangleMesh.{IsEdgeEntry, IsEdgeSight}
+use Rattle.mesh_defs.specs.Sights.{IsEdgeEntry, IsEdgeSight}
 use Rattle.mesh_laws.proofs.Places.{all_weaker, all_append, all_map, all_at}
 use Rattle.plex_chart.specs.Chart.{point_at, no_point, IsInStratum, FitsFacet, IsWhole}
 use Rattle.plex_serial.specs.declared.edges.Edge.{Edge}

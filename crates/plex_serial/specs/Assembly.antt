@@ -4,7 +4,7 @@ use Rattle.std.specs.List.{AllByRecursion}
 use Rattle.mesh_defs.specs.declared.ConeEntry.{ConeEntry}
 use Rattle.mesh_defs.specs.declared.Poly.TheVariants.{Vertex, Segment, Triangle}
 use Rattle.mesh_defs.specs.Diagram.{Covering, Diagram}
-use Rattle.mesh_laws.specs.TriangleMesh.{IsEdgeEntry}
+use Rattle.mesh_defs.specs.Sights.{IsEdgeEntry}
 use Rattle.plex_serial.specs.declared.edges.Edge.{Edge}
 
 -- three entries of these many edges, numbered from a base

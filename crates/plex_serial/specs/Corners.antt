@@ -2,8 +2,8 @@
 use Rattle.std.specs.Prelude.{◌≡◌, ◌≢◌, ℕ, ◌-◌, ◌<◌, List, length, map, slice_index, count_by, take}
 use Rattle.mesh_defs.specs.declared.Poly.TheVariants.{Triangle}
 use Rattle.mesh_defs.specs.Mesh.{Cell}
-use Rattle.text_defs.specs.Content.{Content}
-use Rattle.text_defs.specs.Triangles.{is_used}
+use Rattle.input_defs.specs.Content.{Content}
+use Rattle.triangle_defs.specs.Triangles.{is_used}
 
 -- three corners that differ
 pub record AreApart (corners : List ℕ) : Type 0 where

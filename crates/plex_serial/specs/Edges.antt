@@ -3,11 +3,12 @@ use Rattle.std.specs.Prelude.{◌≡◌, ℕ, ◌^◌, if◌then◌else◌, List
 use Rattle.std.specs.List.{list_any, enumerate_from, AllByRecursion}
 use Rattle.mesh_defs.specs.declared.ConeEntry.{ConeEntry}
 use Rattle.mesh_defs.specs.declared.Poly.TheVariants.{Segment}
-use Rattle.mesh_defs.specs.Lists.{sorted}
+use Rattle.plain_lists.specs.Lists.{sorted}
 use Rattle.mesh_defs.specs.Mesh.{Cell}
 use Rattle.mesh_defs.specs.Points.{Sight, point_of, shows}
 use Rattle.mesh_defs.specs.Diagram.{firsts}
-use Rattle.mesh_laws.specs.TriangleMesh.{IsEdgeSight, edge_sights_of, entry_among}
+use Rattle.mesh_defs.specs.Sights.{IsEdgeSight, entry_among}
+use Rattle.triangle_laws.specs.TriangleMesh.{edge_sights_of}
 use Rattle.plex_serial.specs.Corners.{triangle_on}
 use Rattle.plex_serial.specs.declared.edges.Edge.{Edge}
 

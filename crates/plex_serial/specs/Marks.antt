@@ -1,6 +1,6 @@
 -- Flags of the nodes that elements have.
 use Rattle.std.specs.Prelude.{ℕ, ◌-◌, Bool, true, List, [], ◌∷◌, slice_set}
-use Rattle.text_defs.specs.Content.{Element}
+use Rattle.input_defs.specs.Content.{Element}
 
 -- the flags once these nodes, numbered from 1, are flagged too
 abbrev pub flagged : List Bool → List ℕ → List Bool

@@ -2,7 +2,7 @@
 
 ghost use Rattle.std.specs.Prelude.{◌≡◌, ◌+◌, ◌<◌, ◌≤◌, ◌^◌, [], ◌++◌, map, length, replicate, pos, IfOk, OnOk};
 ghost use Rattle.std.specs.List.{AllByRecursion};
-ghost use Rattle.mesh_laws.specs.TriangleMesh.{IsEdgeSight};
+ghost use Rattle.mesh_defs.specs.Sights.{IsEdgeSight};
 ghost use Rattle.plex_serial.specs.Assembly.{IsCellCone, cell_point, bare_point, edge_point, flat_diagram};
 ghost use Rattle.plex_serial.specs.Edges.{sight_of};
 

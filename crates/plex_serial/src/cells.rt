@@ -2,12 +2,12 @@
 
 ghost use Rattle.std.specs.Prelude.{◌≡◌, ◌≤◌, map, length, IfOk};
 ghost use Rattle.std.specs.List.{AllByRecursion};
-ghost use Rattle.text_defs.specs.Content.{Element};
-ghost use Rattle.text_defs.specs.Triangles.{vertex_of};
-ghost use Rattle.mesh_laws.specs.TriangleMesh.{IsTriangleContent};
+ghost use Rattle.input_defs.specs.Content.{Element};
+ghost use Rattle.triangle_defs.specs.Triangles.{vertex_of};
+ghost use Rattle.triangle_laws.specs.TriangleMesh.{IsTriangleContent};
 ghost use Rattle.plex_serial.specs.Corners.{AreCounted, positions_at};
 
-use msh_reader::MshText;
+use triangle_reader::MshText;
 use std::alloc::{AllocError, Global};
 
 /// The corners of each cell, where `positions` has the position of each node.

@@ -1,8 +1,8 @@
 //! Edges, and the table in which each of them is found again.
 
 ghost use Rattle.std.specs.Prelude.{◌≡◌, ◌≢◌, ◌+◌, ◌<◌, ◌^◌, [], ◌∷◌, map, length, IfOk, OnOk, OnErr};
-ghost use Rattle.mesh_defs.specs.Lists.{sorted};
-ghost use Rattle.mesh_laws.specs.TriangleMesh.{edge_sight, entry_among};
+ghost use Rattle.plain_lists.specs.Lists.{sorted};
+ghost use Rattle.mesh_defs.specs.Sights.{edge_sight, entry_among};
 ghost use Rattle.plex_serial.specs.Edges.{sight_of, with_sight};
 
 use indexmap::IndexSet;

@@ -1,6 +1,6 @@
 ghost use Rattle.std.specs.Prelude.{◌≤◌, length, IfOk};
-ghost use Rattle.text_defs.specs.Triangles.{triangle_mesh};
-ghost use Rattle.mesh_laws.specs.TriangleMesh.{IsTriangleContent};
+ghost use Rattle.triangle_defs.specs.Triangles.{triangle_mesh};
+ghost use Rattle.triangle_laws.specs.TriangleMesh.{IsTriangleContent};
 ghost use Rattle.plex_serial.specs.Keys.{Draws};
 
 use crate::assembly::assemble;
@@ -9,7 +9,7 @@ use crate::joining::{Joined, join};
 use crate::keys::keys_of;
 use crate::serial_mesh::SerialMesh;
 use crate::vertices::{Vertices, number_vertices, used_nodes};
-use msh_reader::MshText;
+use triangle_reader::MshText;
 use plex_base::NoMemory;
 use std::alloc::Global;
 

@@ -2,7 +2,7 @@
 
 ghost use Rattle.std.specs.Prelude.{◌≡◌, ◌+◌, ◌*◌, ◌<◌, ◌^◌, map, length, IfOk, OnOk};
 ghost use Rattle.std.specs.List.{AllByRecursion};
-ghost use Rattle.mesh_laws.specs.TriangleMesh.{edge_sights_of};
+ghost use Rattle.triangle_laws.specs.TriangleMesh.{edge_sights_of};
 ghost use Rattle.plex_serial.specs.Edges.{sight_of, with_sights, placed, edges_among, cone_among};
 ghost use Rattle.plex_serial.specs.Corners.{AreApart, triangle_on};
 

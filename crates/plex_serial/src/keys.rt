@@ -1,7 +1,7 @@
 //! The keys of the points, in the order of the chart.
 
 ghost use Rattle.std.specs.Prelude.{◌≡◌, ◌+◌, ◌*◌, ◌++◌, map, length, IfOk, OnOk};
-ghost use Rattle.mesh_defs.specs.Lists.{below};
+ghost use Rattle.plain_lists.specs.Lists.{below};
 ghost use Rattle.plex_serial.specs.Keys.{numbers};
 ghost use Rattle.plex_serial.specs.declared.edges.Edge.{Edge as AnyEdge};
 

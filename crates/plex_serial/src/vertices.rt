@@ -2,13 +2,13 @@
 
 ghost use Rattle.std.specs.Prelude.{◌≡◌, ◌≤◌, map, length, IfOk};
 ghost use Rattle.std.specs.List.{AllByRecursion};
-ghost use Rattle.text_defs.specs.Content.{Node};
-ghost use Rattle.text_defs.specs.Triangles.{is_used, vertices_of};
-ghost use Rattle.mesh_laws.specs.TriangleMesh.{IsTriangleContent};
+ghost use Rattle.input_defs.specs.Content.{Node};
+ghost use Rattle.triangle_defs.specs.Triangles.{is_used, vertices_of};
+ghost use Rattle.triangle_laws.specs.TriangleMesh.{IsTriangleContent};
 ghost use Rattle.plex_serial.specs.Corners.{AreCounted};
 ghost use Rattle.plex_serial.specs.Marks.{flagged};
 
-use msh_reader::MshText;
+use triangle_reader::MshText;
 use std::alloc::{AllocError, Global};
 
 /// For each node the position that it has among the vertices if it is one, and the coordinates of

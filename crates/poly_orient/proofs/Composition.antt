@@ -4,7 +4,7 @@ use Rattle.std.specs.Cmp.Lexicographic.{same_text}
 use Rattle.std.proofs.lemmas.Bool.{and_parts}
 use Rattle.std.proofs.lemmas.List.{get_or-map}
 use Rattle.mesh_defs.specs.Tables.{corner_count}
-use Rattle.mesh_defs.specs.Lists.{same_list, picked}
+use Rattle.plain_lists.specs.Lists.{same_list, picked}
 use Rattle.mesh_defs.specs.declared.Poly.{Poly}
 use Rattle.mesh_defs.specs.declared.Poly.TheVariants.{Vertex, Segment, Triangle, Quad, Tet, Hex}
 use Rattle.poly_orient.specs.declared.turn.Turn.{Turn}

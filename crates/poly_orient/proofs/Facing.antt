@@ -9,7 +9,7 @@ use Rattle.std.proofs.lemmas.List.Sums.{AllPass-from_list_all}
 use Rattle.std.proofs.lemmas.Bool.Decides.{Decides-int_eq}
 use Rattle.mesh_defs.specs.declared.Poly.{Poly}
 use Rattle.mesh_defs.specs.declared.Poly.TheVariants.{Vertex, Segment, Triangle, Quad, Tet, Hex}
-use Rattle.mesh_defs.specs.Lists.{below, same_list, sorted, picked}
+use Rattle.plain_lists.specs.Lists.{below, same_list, sorted, picked}
 use Rattle.mesh_defs.specs.Tables.{Facet, corner_count, facets_of, facet_at}
 use Rattle.mesh_defs.specs.Orientation.{orientations, rotations, reflections, corners_under, act, relative}
 use Rattle.poly_orient.specs.declared.turn.Turn.{Turn}

@@ -6,7 +6,7 @@ use Rattle.std.proofs.lemmas.Bool.{and_parts, cases_lt}
 use Rattle.std.proofs.lemmas.List.{take_all, get_or_append_left, get_or_push}
 use Rattle.mesh_defs.specs.declared.Poly.{Poly}
 use Rattle.mesh_defs.specs.declared.Poly.TheVariants.{Vertex, Segment, Triangle, Quad, Tet, Hex}
-use Rattle.mesh_defs.specs.Lists.{below, same_list, picked}
+use Rattle.plain_lists.specs.Lists.{below, same_list, picked}
 use Rattle.mesh_defs.specs.Tables.{corner_count}
 use Rattle.mesh_defs.specs.Orientation.{act, rotations}
 use Rattle.poly_orient.specs.declared.turn.Turn.{Turn}

@@ -10,7 +10,7 @@ use Rattle.std.proofs.lemmas.List.{get_or_default, get_or-take, length-take}
 use Rattle.std.proofs.lemmas.List.Sums.{AllPass-from_list_all, list_all-from_AllPass}
 use Rattle.std.proofs.lemmas.List.Folds.{Any-from_list_any, list_any_none}
 use Rattle.std.proofs.lemmas.List.Elements.{All-contains, All-from_get_or, recursion_from_All}
-use Rattle.mesh_defs.specs.Lists.{below, same_list}
+use Rattle.plain_lists.specs.Lists.{below, same_list}
 use Rattle.poly_orient.specs.Rules.{IsOrder, AreRising}
 use Rattle.poly_orient.proofs.Rows.{below_all}
 use Rattle.poly_orient.proofs.Grouping.{length-below, get_or-below}

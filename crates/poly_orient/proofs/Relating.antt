@@ -8,7 +8,7 @@ use Rattle.std.proofs.lemmas.List.{get_or-map, map-append, take_more}
 use Rattle.std.proofs.lemmas.List.Elements.{All-head, All-tail, Contains-get_or}
 use Rattle.std.proofs.lemmas.List.Sums.{position_or_len_is}
 use Rattle.mesh_defs.specs.declared.Poly.{Poly}
-use Rattle.mesh_defs.specs.Lists.{below, same_list, picked}
+use Rattle.plain_lists.specs.Lists.{below, same_list, picked}
 use Rattle.mesh_defs.specs.Tables.{corner_count}
 use Rattle.mesh_defs.specs.Orientation.{orientations, corners_under, act, relative}
 use Rattle.poly_orient.specs.declared.turn.Turn.{Turn}

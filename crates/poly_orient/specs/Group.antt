@@ -3,7 +3,7 @@
 use Rattle.std.specs.Prelude.{◌≢◌, ℕ, ℤ, pos, List, unwrap_or}
 use Rattle.std.specs.List.{AllPairs, Contains, position_or_len}
 use Rattle.mesh_defs.specs.declared.Poly.{Poly}
-use Rattle.mesh_defs.specs.Lists.{below, same_list, sorted, picked}
+use Rattle.plain_lists.specs.Lists.{below, same_list, sorted, picked}
 use Rattle.mesh_defs.specs.Tables.{Facet, corner_count, facets_of, facet_at}
 use Rattle.mesh_defs.specs.Orientation.{orientations, corners_under, act, relative}
 

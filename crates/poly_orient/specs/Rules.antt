@@ -5,7 +5,7 @@ use Rattle.std.specs.Ordering.{nat_cmp}
 use Rattle.std.specs.List.Sorted.{IsStrictlySortedBy}
 use Rattle.std.specs.Cmp.Lexicographic.{slice_cmp}
 use Rattle.mesh_defs.specs.declared.Poly.TheVariants.{Quad, Hex}
-use Rattle.mesh_defs.specs.Lists.{below, same_list, picked}
+use Rattle.plain_lists.specs.Lists.{below, same_list, picked}
 use Rattle.mesh_defs.specs.Tables.{Facet, edges_of, facets_of}
 use Rattle.mesh_defs.specs.Orientation.{act}
 use Rattle.poly_orient.specs.Group.{Differ}

@@ -1,7 +1,7 @@
 //! What an orientation does to the facets of a polytope.
 
 ghost use Rattle.std.specs.Prelude.{◌≡◌, ◌<◌, ℕ, List, length};
-ghost use Rattle.mesh_defs.specs.Lists.{picked};
+ghost use Rattle.plain_lists.specs.Lists.{picked};
 ghost use Rattle.mesh_defs.specs.Tables.{corner_count, facets_of, facet_at};
 ghost use Rattle.mesh_defs.specs.Orientation.{act};
 ghost use Rattle.poly_orient.specs.Group.{IsOrientation, facet_under};

@@ -2,7 +2,7 @@
 
 ghost use Rattle.std.specs.Prelude.{◌≡◌, ◌<◌, ℕ, List, length, pos};
 ghost use Rattle.mesh_defs.specs.Tables.{corner_count};
-ghost use Rattle.mesh_defs.specs.Lists.{picked};
+ghost use Rattle.plain_lists.specs.Lists.{picked};
 ghost use Rattle.mesh_defs.specs.Orientation.{act};
 ghost use Rattle.poly_orient.specs.Group.{IsOrientation, composition, corners_of};
 ghost use Rattle.poly_orient.specs.Turning.{corners_turned, IsTurn, joint, place, second, undoing};

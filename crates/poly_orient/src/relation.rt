@@ -2,7 +2,7 @@
 
 ghost use Rattle.std.specs.Prelude.{◌≡◌, ◌≢◌, ◌<◌, ◌==◌, ◌↔◌, ℤ, IsTrue, IfSome, IfNone, length};
 ghost use Rattle.std.specs.List.{position};
-ghost use Rattle.mesh_defs.specs.Lists.{picked};
+ghost use Rattle.plain_lists.specs.Lists.{picked};
 ghost use Rattle.mesh_defs.specs.Tables.{corner_count};
 ghost use Rattle.mesh_defs.specs.Orientation.{act, relative};
 ghost use Rattle.poly_orient.specs.Group.{IsOrientation, Differ};

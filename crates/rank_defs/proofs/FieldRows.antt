@@ -2,15 +2,15 @@
 use Rattle.std.proofs.Common.{◌≡◌, ℕ, ◌-◌, ◌*◌, ◌^◌, List, [], ◌∷◌, map, ℤ, pos, negsuc, Option, Some, None, refl}
 use Rattle.mesh_defs.specs.declared.Poly.TheVariants.{Triangle}
 use Rattle.mesh_defs.specs.declared.Place.TheVariants.{Node, Element}
-use Rattle.mesh_defs.specs.Lists.{sorted, below}
+use Rattle.plain_lists.specs.Lists.{sorted, below}
 use Rattle.mesh_defs.specs.Mesh.{Mesh, Mark, Row, placed_cells}
 use Rattle.mesh_defs.specs.Points.{Sight, sights_of, contains}
 use Rattle.mesh_defs.specs.Diagram.{stratum, strata, chart}
-use Rattle.rank_defs.specs.Labels.{mesh_label}
-use Rattle.rank_defs.specs.Fields.{row_values, data_words, dof_words, fields, words_at}
+use Rattle.plex_defs.specs.Labels.{mesh_label}
+use Rattle.plex_defs.specs.Fields.{row_values, data_words, dof_words, fields, words_at}
 use Rattle.rank_defs.specs.Ranks.{assigned, held_cells, held, ranks_at, owner}
 use Rattle.rank_defs.specs.Spread.{LocalMesh, local_mesh, plain_dist, ScatterPart, scatter_part, plain_scatter}
-use Rattle.rank_defs.proofs.Meshes.{bare, two_triangles}
+use Rattle.plex_defs.proofs.Meshes.{bare, two_triangles}
 
 abbrev one_triangle : Mesh
 one_triangle = bare 2 3 Triangle ((0 ∷ 1 ∷ 2 ∷ []) ∷ [])

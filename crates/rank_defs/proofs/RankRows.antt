@@ -3,25 +3,25 @@ use Rattle.std.proofs.Common.{◌≡◌, ◌==◌, ℕ, List, [], ◌∷◌, map
 use Rattle.mesh_defs.specs.Mesh.{Mesh, Cell}
 use Rattle.mesh_defs.specs.declared.Poly.TheVariants.{Vertex, Segment, Triangle}
 use Rattle.mesh_defs.specs.declared.ConeEntry.{ConeEntry}
-use Rattle.mesh_defs.specs.Lists.{sorted, below}
+use Rattle.plain_lists.specs.Lists.{sorted, below}
 use Rattle.mesh_defs.specs.Orientation.{rotations, reflections, orientations, corners_under, act, relative}
 use Rattle.mesh_defs.specs.Points.{Sight, point_of, sights_of, first_sight, key, arrangement, contains}
 use Rattle.mesh_defs.specs.Diagram.{Covering, Diagram, stratum, strata, chart, seen_under, entry, cone, diagram}
-use Rattle.rank_defs.specs.declared.Op.TheVariants.{Sum, Min}
-use Rattle.rank_defs.specs.declared.Tag.TheVariants.{Home, Number}
-use Rattle.rank_defs.specs.declared.Ask.{Ask}
-use Rattle.rank_defs.specs.declared.Turn.{Turn}
-use Rattle.rank_defs.specs.Asks.{step}
-use Rattle.rank_defs.specs.PrintedOrder.{fetched_before, stands_before, printed_order}
-use Rattle.rank_defs.specs.Rounds.{Round}
-use Rattle.rank_defs.specs.Script.{scripted}
-use Rattle.rank_defs.specs.Forest.{leaf}
-use Rattle.rank_defs.specs.Labels.{mesh_label}
-use Rattle.rank_defs.specs.Fields.{fields}
+use Rattle.sf_defs.specs.declared.Op.TheVariants.{Sum, Min}
+use Rattle.sf_defs.specs.declared.Tag.TheVariants.{Home, Number}
+use Rattle.sf_defs.specs.declared.Ask.{Ask}
+use Rattle.sf_defs.specs.declared.Turn.{Turn}
+use Rattle.sf_defs.specs.Asks.{step}
+use Rattle.sf_defs.specs.PrintedOrder.{fetched_before, stands_before, printed_order}
+use Rattle.sf_defs.specs.Rounds.{Round}
+use Rattle.sf_defs.specs.Script.{scripted}
+use Rattle.sf_defs.specs.Forest.{leaf}
+use Rattle.plex_defs.specs.Labels.{mesh_label}
+use Rattle.plex_defs.specs.Fields.{fields}
 use Rattle.rank_defs.specs.Ranks.{assigned, layer, held_cells, held, ranks_at, owner, is_shared, owned, own_key}
 use Rattle.rank_defs.specs.Spread.{charts, point_forest, migration_forest, trace, LocalMesh, local_mesh, plain_dist, scatter_part, plain_scatter, own_chart, shared_part, plain_shared}
 use Rattle.rank_defs.specs.Home.{by_vertices, shared_points, home_points, home_words, home_asks, number_asks, bases_of, number}
-use Rattle.rank_defs.proofs.Meshes.{two_triangles, two_triangles_at, twisted_hexahedra, three_triangles}
+use Rattle.plex_defs.proofs.Meshes.{two_triangles, two_triangles_at, twisted_hexahedra, three_triangles}
 
 abbrev at : ℕ → ℤ → ConeEntry
 at p o = record { point = p; o = o }

@@ -1,18 +1,18 @@
 -- Worked rows: four triangles around a vertex with a layer of overlap, and a strip of eight squares that is redistributed.
 use Rattle.std.proofs.Common.{◌≡◌, ◌==◌, ℕ, List, [], ◌∷◌, map, take, length, count_by, sum, refl}
-use Rattle.mesh_defs.specs.Lists.{sorted, below}
+use Rattle.plain_lists.specs.Lists.{sorted, below}
 use Rattle.mesh_defs.specs.Mesh.{Mesh}
 use Rattle.mesh_defs.specs.Points.{point_of, sights_of, contains}
 use Rattle.mesh_defs.specs.Diagram.{stratum, strata, chart, place_in}
-use Rattle.rank_defs.specs.declared.Tag.TheVariants.{Number}
-use Rattle.rank_defs.specs.Asks.{step}
-use Rattle.rank_defs.specs.PrintedOrder.{fetched_before, stands_before, printed_order}
-use Rattle.rank_defs.specs.Script.{scripted}
+use Rattle.sf_defs.specs.declared.Tag.TheVariants.{Number}
+use Rattle.sf_defs.specs.Asks.{step}
+use Rattle.sf_defs.specs.PrintedOrder.{fetched_before, stands_before, printed_order}
+use Rattle.sf_defs.specs.Script.{scripted}
 use Rattle.rank_defs.specs.Home.{number_asks, bases_of}
-use Rattle.rank_defs.specs.Forest.{root_at, leaves_on, root_of, compose}
+use Rattle.sf_defs.specs.Forest.{root_at, leaves_on, root_of, compose}
 use Rattle.rank_defs.specs.Ranks.{assigned, layer, held_cells, held, ranks_at, owner, owned}
 use Rattle.rank_defs.specs.Spread.{charts, migration_forest, trace}
-use Rattle.rank_defs.proofs.Meshes.{around_a_vertex, strip}
+use Rattle.plex_defs.proofs.Meshes.{around_a_vertex, strip}
 
 -- how many points each rank holds with k layers
 abbrev held_counts : Mesh → List ℕ → ℕ → ℕ → List ℕ

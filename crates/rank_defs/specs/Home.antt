@@ -2,15 +2,15 @@
 -- rank draws the base of its numbers.
 use Rattle.std.specs.Prelude.{◌≡◌, ℕ, ◌+◌, Bool, true, false, ◌&&◌, ◌||◌, ◌==◌, if◌then◌else◌, nat_lt, List, [], ◌∷◌, length, map, filter, filter_map, flat_map, slice_index, None, option_map, unwrap_or}
 use Rattle.std.specs.List.{enumerate_from}
-use Rattle.mesh_defs.specs.Lists.{below}
+use Rattle.plain_lists.specs.Lists.{below}
 use Rattle.mesh_defs.specs.Tables.{dim_of}
 use Rattle.mesh_defs.specs.Mesh.{Mesh}
 use Rattle.mesh_defs.specs.Points.{Point, point_of}
 use Rattle.mesh_defs.specs.Diagram.{strata, place_in}
-use Rattle.rank_defs.specs.declared.Op.TheVariants.{Sum, Min}
-use Rattle.rank_defs.specs.declared.Tag.TheVariants.{Home, Number}
-use Rattle.rank_defs.specs.declared.Ask.{Ask}
-use Rattle.rank_defs.specs.Rounds.{Round, IsLegal}
+use Rattle.sf_defs.specs.declared.Op.TheVariants.{Sum, Min}
+use Rattle.sf_defs.specs.declared.Tag.TheVariants.{Home, Number}
+use Rattle.sf_defs.specs.declared.Ask.{Ask}
+use Rattle.sf_defs.specs.Rounds.{Round, IsLegal}
 use Rattle.rank_defs.specs.Ranks.{owner, is_shared, owned, own_key}
 
 -- ---- points in the order of their vertices

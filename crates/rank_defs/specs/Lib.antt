@@ -1,11 +1,3 @@
-pub mod Asks
-pub mod PrintedOrder
-pub mod Rounds
-pub mod Script
-pub mod Forest
-pub mod Closure
-pub mod Labels
-pub mod Fields
 pub mod Ranks
 pub mod Spread
 pub mod Home

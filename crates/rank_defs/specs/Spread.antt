@@ -4,15 +4,15 @@ use Rattle.std.specs.Prelude.{◌≡◌, ℕ, not, ◌==◌, if◌then◌else◌
 use Rattle.std.specs.List.{list_any, enumerate_from}
 use Rattle.mesh_defs.specs.declared.Place.{Place}
 use Rattle.mesh_defs.specs.declared.Place.TheVariants.{Node, Element}
-use Rattle.mesh_defs.specs.Lists.{below}
+use Rattle.plain_lists.specs.Lists.{below}
 use Rattle.mesh_defs.specs.Tables.{dim_of}
 use Rattle.mesh_defs.specs.Mesh.{Mesh, Cell, Mark, Section}
 use Rattle.mesh_defs.specs.Points.{Point, Sight, point_of, shows, sights, vertex_sights, contains}
 use Rattle.mesh_defs.specs.Diagram.{Diagram, firsts, chart, diagram, place_in}
-use Rattle.rank_defs.specs.declared.Leaf.{Leaf}
-use Rattle.rank_defs.specs.Forest.{Forest, leaf}
-use Rattle.rank_defs.specs.Labels.{marked_point, mesh_label}
-use Rattle.rank_defs.specs.Fields.{row_values, fields}
+use Rattle.sf_defs.specs.declared.Leaf.{Leaf}
+use Rattle.sf_defs.specs.Forest.{Forest, leaf}
+use Rattle.plex_defs.specs.Labels.{marked_point, mesh_label}
+use Rattle.plex_defs.specs.Fields.{row_values, fields}
 use Rattle.rank_defs.specs.Ranks.{assigned, held_cells, held, owner}
 
 -- ---- forests of points

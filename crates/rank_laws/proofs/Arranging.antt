@@ -5,7 +5,7 @@ use Rattle.std.specs.List.{AllByRecursion}
 use Rattle.std.proofs.lemmas.List.{length-map, get_or-map}
 use Rattle.mesh_defs.specs.declared.Poly.TheVariants.{Vertex}
 use Rattle.mesh_defs.specs.declared.ConeEntry.{ConeEntry}
-use Rattle.mesh_defs.specs.Lists.{picked}
+use Rattle.plain_lists.specs.Lists.{picked}
 use Rattle.mesh_defs.specs.Tables.{Facet, corner_count, facets_of, facet_at}
 use Rattle.mesh_defs.specs.Orientation.{act}
 use Rattle.mesh_defs.specs.Mesh.{Mesh, placed_cells}
@@ -14,7 +14,7 @@ use Rattle.mesh_defs.specs.Diagram.{count_in, strata, chart, place_in, seen_unde
 use Rattle.mesh_laws.proofs.Places.{all_at, position-within}
 use Rattle.mesh_laws.proofs.Keys.{seen_under-carries}
 use Rattle.mesh_laws.proofs.Containing.{chart-all}
-use Rattle.rank_defs.specs.Closure.{list_of, IsArranged, arrangements}
+use Rattle.plex_defs.specs.Closure.{list_of, IsArranged, arrangements}
 use Rattle.rank_laws.specs.Conditions.{IsSoundMesh}
 use Rattle.rank_laws.proofs.Strata.{found-any}
 use Rattle.rank_laws.proofs.Found.{IsSeen, at-found}

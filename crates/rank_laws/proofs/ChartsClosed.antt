@@ -7,13 +7,12 @@ use Rattle.std.proofs.lemmas.Bool.{and_parts, and_from, eqb-true, eq-eqb, ne_eqb
 use Rattle.std.proofs.lemmas.List.Folds.{list_any-append}
 use Rattle.mesh_defs.specs.declared.Poly.{Poly}
 use Rattle.mesh_defs.specs.declared.Poly.TheVariants.{Vertex, Segment}
-use Rattle.mesh_defs.specs.Lists.{below, same_list, sorted, picked}
+use Rattle.plain_lists.specs.Lists.{below, same_list, sorted, picked, differ_as_sets}
 use Rattle.mesh_defs.specs.Tables.{Facet, dim_of, corner_count, facets_of, edges_of}
 use Rattle.mesh_defs.specs.Orientation.{relative}
 use Rattle.mesh_defs.specs.Mesh.{Mesh, Cell, placed_cells}
 use Rattle.mesh_defs.specs.Points.{Point, Sight, point_on, point_of, shows, sights_of, vertex_sight, first_sight, arrangement, contains}
 use Rattle.mesh_defs.specs.Diagram.{strata, chart, seen_under, IsAccepted}
-use Rattle.text_defs.specs.Triangles.{differ_as_sets}
 use Rattle.mesh_laws.proofs.Places.{filter_passing, none_passes, any_weaker, any_map, all_weaker, all_both, all_from, all_map, all_filter, all_enumerated, all_in_flat_map}
 use Rattle.mesh_laws.proofs.Firsts.{same_list-self, shows-true}
 use Rattle.mesh_laws.proofs.Turns.{sorted-min_max}

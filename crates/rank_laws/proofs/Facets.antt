@@ -8,7 +8,7 @@ use Rattle.std.proofs.lemmas.List.{length-map, get_or-map}
 use Rattle.std.proofs.lemmas.List.Folds.{list_any-append}
 use Rattle.mesh_defs.specs.declared.Poly.{Poly}
 use Rattle.mesh_defs.specs.declared.Poly.TheVariants.{Vertex, Segment}
-use Rattle.mesh_defs.specs.Lists.{below, same_list, sorted, picked}
+use Rattle.plain_lists.specs.Lists.{below, same_list, sorted, picked}
 use Rattle.mesh_defs.specs.Tables.{Facet, dim_of, corner_count, facets_of, edges_of}
 use Rattle.mesh_defs.specs.Orientation.{relative}
 use Rattle.mesh_defs.specs.Mesh.{Mesh, Cell, placed_cells}
@@ -18,7 +18,7 @@ use Rattle.mesh_laws.proofs.Places.{each_fails, all_append_first, all_in_flat_ma
 use Rattle.mesh_laws.proofs.Firsts.{shown_itself}
 use Rattle.mesh_laws.proofs.Turns.{relative-vertex, sorted-one}
 use Rattle.mesh_laws.proofs.Entries.{relative-edge}
-use Rattle.mesh_laws.proofs.TriangleDiagram.{vertex_found}
+use Rattle.mesh_laws.proofs.Vertices.{vertex_found}
 use Rattle.rank_laws.specs.Conditions.{IsFlatOrSolid, IsSoundCell, IsSoundMesh}
 use Rattle.rank_laws.proofs.Lists.{stands, find-cases, find-has}
 use Rattle.rank_laws.proofs.Inverting.{of-images}

@@ -5,8 +5,8 @@ use Rattle.std.specs.List.{list_any, AllByRecursion, enumerate_from, cons_option
 use Rattle.std.proofs.lemmas.Bool.{eqb-true, or_parts, cond-true, cond-false}
 use Rattle.mesh_laws.proofs.Places.{none_passes, all_weaker, all_from, map_map_same}
 use Rattle.mesh_laws.proofs.Containing.{eqb-sym}
-use Rattle.rank_defs.specs.declared.Leaf.{Leaf}
-use Rattle.rank_defs.specs.Forest.{Forest, leaf, root_at, leaves_on, root_of, ForestFlaw, or_else, first_some, has_root, flaw_on, flaw, IsForest, through, compose}
+use Rattle.sf_defs.specs.declared.Leaf.{Leaf}
+use Rattle.sf_defs.specs.Forest.{Forest, leaf, root_at, leaves_on, root_of, ForestFlaw, or_else, first_some, has_root, flaw_on, flaw, IsForest, through, compose}
 use Rattle.rank_laws.proofs.Lists.{find-none}
 
 -- it has this local index

@@ -5,19 +5,19 @@ use Rattle.std.specs.List.{list_any, AllByRecursion, filter, enumerate_from, con
 use Rattle.std.proofs.lemmas.Bool.{eq-eqb, eqb-true, ne_eqb, ltb-true, and_parts, and_from, and_left, or_left, or_right, or_cases, cond-true, cond-false, both_ways, cases_lt}
 use Rattle.std.proofs.lemmas.List.Folds.{list_any-append}
 use Rattle.std.proofs.lemmas.List.{length-map, get_or-map, get_or_past}
-use Rattle.mesh_defs.specs.Lists.{below, same_list, sorted}
+use Rattle.plain_lists.specs.Lists.{below, same_list, sorted}
 use Rattle.mesh_defs.specs.Tables.{dim_of}
 use Rattle.mesh_defs.specs.Mesh.{Mesh, Cell, placed_cells}
 use Rattle.mesh_defs.specs.Points.{Point, Sight, point_of, shows, sights_of, sights, vertex_sight, key, contains}
 use Rattle.mesh_defs.specs.Diagram.{strata}
 use Rattle.mesh_laws.proofs.Places.{all_both, all_at, all_weaker, all_from, all_map, all_filter, all_flat_map, none_passes, any_map, any_weaker, filter_passing}
 use Rattle.mesh_laws.proofs.Containing.{sights_of-any_place, below-all, length-below}
-use Rattle.rank_defs.specs.declared.Op.{Op}
-use Rattle.rank_defs.specs.declared.Op.TheVariants.{Min}
-use Rattle.rank_defs.specs.declared.Ask.{Ask}
-use Rattle.rank_defs.specs.declared.Turn.{Turn}
-use Rattle.rank_defs.specs.Asks.{step, Entry, Replays, after_ask}
-use Rattle.rank_defs.specs.Rounds.{Round, entry_at, in_order, places_of, places_on}
+use Rattle.sf_defs.specs.declared.Op.{Op}
+use Rattle.sf_defs.specs.declared.Op.TheVariants.{Min}
+use Rattle.sf_defs.specs.declared.Ask.{Ask}
+use Rattle.sf_defs.specs.declared.Turn.{Turn}
+use Rattle.sf_defs.specs.Asks.{step, Entry, Replays, after_ask}
+use Rattle.sf_defs.specs.Rounds.{Round, entry_at, in_order, places_of, places_on}
 use Rattle.rank_defs.specs.Ranks.{IsAssignment, rank_of, assigned, ranks_at, owner, is_shared, own_key}
 use Rattle.rank_defs.specs.Home.{precedes, put_in_order, by_vertices, shared_points, home_points, home_words, home_asks, IsHomeRound}
 use Rattle.rank_laws.specs.Conditions.{in_some}

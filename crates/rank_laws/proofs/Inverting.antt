@@ -5,12 +5,12 @@ use Rattle.std.specs.List.{AllByRecursion, enumerate_from, cons_option}
 use Rattle.std.proofs.lemmas.Bool.{eq-eqb, eqb-true, ne_eqb, ltb-true, ltb-false, lt-ltb, le-ltb, and_parts, cond-true, cond-false, cases_lt, both_ways}
 use Rattle.std.proofs.lemmas.List.Elements.{filter_map-append}
 use Rattle.std.proofs.lemmas.List.Sums.{sum_by-cons}
-use Rattle.mesh_defs.specs.Lists.{below}
+use Rattle.plain_lists.specs.Lists.{below}
 use Rattle.mesh_laws.proofs.Places.{all_both, each_fails, all_append_first, all_append_second, all_in_flat_map}
 use Rattle.mesh_laws.proofs.Turns.{find-passes}
 use Rattle.mesh_laws.proofs.Containing.{below-all, eqb-sym}
-use Rattle.rank_defs.specs.declared.Leaf.{Leaf}
-use Rattle.rank_defs.specs.Forest.{Forest, leaf, root_at, leaves_on, roots_on, root_of, MeansSame, or_else, first_some, has_root, IsForest, is_on, degree, all_roots, shared_root, leaf_of, FitsLocals, invert}
+use Rattle.sf_defs.specs.declared.Leaf.{Leaf}
+use Rattle.sf_defs.specs.Forest.{Forest, leaf, root_at, leaves_on, roots_on, root_of, MeansSame, or_else, first_some, has_root, IsForest, is_on, degree, all_roots, shared_root, leaf_of, FitsLocals, invert}
 use Rattle.rank_laws.proofs.Lists.{find-cases, find-has}
 use Rattle.rank_laws.proofs.Lists.{image-at}
 use Rattle.rank_laws.proofs.Forests.{is_local, locals_differ, sound}

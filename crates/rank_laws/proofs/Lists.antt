@@ -3,7 +3,7 @@ use Rattle.std.proofs.Common.{◌≡◌, ℕ, zero, suc, ◌+◌, get_or, length
 use Rattle.std.specs.Prelude.{find}
 use Rattle.std.specs.List.{list_any, AllByRecursion, filter, enumerate_from}
 use Rattle.std.proofs.lemmas.List.{map-append, length-map}
-use Rattle.mesh_defs.specs.Lists.{below}
+use Rattle.plain_lists.specs.Lists.{below}
 use Rattle.mesh_laws.proofs.Containing.{length-below}
 use Rattle.std.proofs.lemmas.Bool.{eq-eqb, eqb-true, cases_lt, or_left, or_right, or_cases, or_parts, cond-false}
 use Rattle.rank_defs.specs.Ranks.{least}

@@ -5,7 +5,7 @@ use Rattle.std.specs.List.{list_any, AllByRecursion, filter, cons_option, enumer
 use Rattle.std.proofs.lemmas.Bool.{eq-eqb, ne_eqb, and_left, or_left, or_right, cond-true, cases_lt}
 use Rattle.std.proofs.lemmas.List.Elements.{filter_map-append, All-contains_itself, recursion_from_All}
 use Rattle.std.proofs.lemmas.List.Folds.{list_any-append}
-use Rattle.mesh_defs.specs.Lists.{below, same_list, sorted}
+use Rattle.plain_lists.specs.Lists.{below, same_list, sorted}
 use Rattle.mesh_defs.specs.Mesh.{Mesh, Cell, placed_cells}
 use Rattle.mesh_defs.specs.Points.{Point, Sight, shows, sights_of, sights, vertex_sight, vertex_sights, first_sight, key}
 use Rattle.mesh_laws.proofs.Places.{each_fails, none_passes, all_map, all_from, all_weaker, all_filter, all_flat_map, all_in_flat_map, find-append_found, find-append_none}

@@ -4,7 +4,7 @@ use Rattle.std.specs.Prelude.{flat_map, unwrap_or}
 use Rattle.std.specs.List.{list_any, AllByRecursion, filter, enumerate_from}
 use Rattle.std.proofs.lemmas.List.Sorted.{IsPermutation-refl, IsPermutation-trans, IsPermutation-append, IsPermutation-filter_both}
 use Rattle.std.proofs.lemmas.List.Concat.{flat_map-append}
-use Rattle.mesh_defs.specs.Lists.{below}
+use Rattle.plain_lists.specs.Lists.{below}
 use Rattle.mesh_laws.proofs.Containing.{chart-all}
 use Rattle.mesh_laws.proofs.Firsts.{same_tests}
 use Rattle.std.proofs.lemmas.Bool.{cond-true, cond-false, ltb-true, ltb-false, lt-ltb, le-ltb, not-true, eq-eqb, eqb-true, or_left, or_cases, both_ways, and_parts, and_from}

@@ -2,14 +2,14 @@
 use Rattle.std.proofs.Common.{◌≡◌, ℕ, zero, suc, ◌+◌, ◌<◌, ◌≤◌, Bool, true, false, cond, not, ◌&&◌, ◌==◌, List, [], ◌∷◌, map, length, get_or, Option, Some, None, refl, sym, ap, ◌∙◌, subst, arith, zero-add}
 use Rattle.std.specs.List.{list_any, AllByRecursion, filter, enumerate_from}
 use Rattle.std.proofs.lemmas.Bool.{and_from, ne_eqb, lt-ltb, cond-true, cond-false}
-use Rattle.mesh_defs.specs.Lists.{below}
+use Rattle.plain_lists.specs.Lists.{below}
 use Rattle.mesh_defs.specs.Mesh.{Mesh, Cell, placed_cells}
 use Rattle.mesh_defs.specs.Points.{Point, Sight, point_of, shows, contains}
 use Rattle.mesh_defs.specs.Diagram.{strata, chart, place_in}
 use Rattle.mesh_laws.proofs.Places.{map_map_same, any_weaker, all_both, all_weaker, all_from, all_map, all_enumerated, all_filter, none_passes, filter_passing, position-within}
 use Rattle.mesh_laws.proofs.Firsts.{shows-true, shown_itself}
-use Rattle.rank_defs.specs.declared.Leaf.{Leaf}
-use Rattle.rank_defs.specs.Forest.{Forest, leaf, root_at, leaves_on, or_else, first_some, has_root, ForestFlaw, flaw_on, flaw, IsForest}
+use Rattle.sf_defs.specs.declared.Leaf.{Leaf}
+use Rattle.sf_defs.specs.Forest.{Forest, leaf, root_at, leaves_on, or_else, first_some, has_root, ForestFlaw, flaw_on, flaw, IsForest}
 use Rattle.rank_defs.specs.Ranks.{IsAssignment, held_cells, held, owner, owned}
 use Rattle.rank_defs.specs.Spread.{charts, place_at_owner, leaves_at_owners, owned_places, point_forest, migration_forest, trace}
 use Rattle.rank_laws.specs.Conditions.{in_some}

@@ -3,13 +3,13 @@ use Rattle.std.proofs.Common.{◌≡◌, ℕ, ◌+◌, Bool, true, false, cond, 
 use Rattle.std.specs.Prelude.{find, option_map, filter_map}
 use Rattle.std.specs.List.{list_any, position_or_len, AllByRecursion, filter, enumerate_from, cons_option}
 use Rattle.std.proofs.lemmas.Bool.{eq-eqb, ne_eqb, cond-true, cond-false}
-use Rattle.mesh_defs.specs.Lists.{below}
+use Rattle.plain_lists.specs.Lists.{below}
 use Rattle.mesh_defs.specs.Mesh.{Mesh, placed_cells}
 use Rattle.mesh_defs.specs.Points.{Point, Sight, point_of, shows}
 use Rattle.mesh_defs.specs.Diagram.{strata, place_in}
 use Rattle.mesh_laws.proofs.Places.{all_weaker, all_from, all_map, all_enumerated, all_filter, map_map_same}
 use Rattle.mesh_laws.proofs.Firsts.{shows-true}
-use Rattle.rank_defs.specs.Forest.{leaf, root_at, root_of, through, compose}
+use Rattle.sf_defs.specs.Forest.{leaf, root_at, root_of, through, compose}
 use Rattle.rank_defs.specs.Ranks.{IsAssignment, held, owner}
 use Rattle.rank_defs.specs.Spread.{charts, place_at_owner, leaves_at_owners, owned_places, migration_forest}
 use Rattle.rank_laws.specs.Conditions.{in_some}

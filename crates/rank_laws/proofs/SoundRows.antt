@@ -3,16 +3,15 @@ use Rattle.std.proofs.Common.{◌≡◌, ℕ, ◌<◌, Bool, true, false, not, �
 use Rattle.std.specs.List.{list_any, list_all}
 use Rattle.std.proofs.lemmas.Bool.{and_parts, eqb-true, eq-eqb, ltb-true, not-true, or_cases, both_ways}
 use Rattle.std.specs.Prelude.{is_none}
-use Rattle.mesh_defs.specs.Lists.{below, sorted}
+use Rattle.plain_lists.specs.Lists.{below, sorted, differ_as_sets}
 use Rattle.mesh_defs.specs.Orientation.{rotations, reflections, orientations, corners_under, act, relative}
 use Rattle.mesh_defs.specs.Points.{sights_of, first_sight, arrangement}
 use Rattle.mesh_defs.specs.Diagram.{seen_under, twist_key}
-use Rattle.text_defs.specs.Triangles.{differ_as_sets}
 use Rattle.mesh_defs.specs.Tables.{dim_of, corner_count}
 use Rattle.mesh_defs.specs.Mesh.{Mesh, Cell}
 use Rattle.mesh_laws.proofs.Places.{all_weaker}
 use Rattle.rank_defs.specs.Ranks.{IsAssignment}
-use Rattle.rank_defs.proofs.Meshes.{two_triangles, two_tetrahedra, two_hexahedra, twisted_hexahedra, three_triangles, around_a_vertex, strip}
+use Rattle.plex_defs.proofs.Meshes.{two_triangles, two_tetrahedra, two_hexahedra, twisted_hexahedra, three_triangles, around_a_vertex, strip}
 use Rattle.rank_laws.specs.Conditions.{IsSoundCell, IsSoundMesh}
 use Rattle.rank_laws.proofs.Shapes.{all-pass, are_corners, at-below}
 

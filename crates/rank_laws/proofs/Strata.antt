@@ -6,12 +6,12 @@ use Rattle.std.proofs.lemmas.Bool.{eq-eqb, eqb-true, ne_eqb, and_left, and_parts
 use Rattle.std.proofs.lemmas.List.Elements.{All-contains, All-from_recursion}
 use Rattle.std.proofs.lemmas.List.{map-append}
 use Rattle.std.proofs.lemmas.List.Folds.{list_any-append}
-use Rattle.mesh_defs.specs.Lists.{below, same_list, sorted}
+use Rattle.plain_lists.specs.Lists.{below, same_list, sorted}
 use Rattle.mesh_defs.specs.Tables.{dim_of}
 use Rattle.mesh_defs.specs.Mesh.{Mesh, placed_cells}
 use Rattle.mesh_defs.specs.Points.{Sight, point_of, shows, sights, vertex_sight, vertex_sights, first_sight, key, arrangement}
 use Rattle.mesh_defs.specs.Diagram.{firsts_after, firsts, stratum, strata}
-use Rattle.mesh_laws.specs.TriangleMesh.{points_differ}
+use Rattle.mesh_defs.specs.Sights.{points_differ}
 use Rattle.mesh_laws.proofs.Places.{all_both, all_weaker, all_from, all_append, all_map, each_fails, none_passes, filter_passing, find-append_found, find-append_none}
 use Rattle.mesh_laws.proofs.Firsts.{same_point-sym, shows-own, find-firsts, firsts-all}
 use Rattle.mesh_laws.proofs.Containing.{below-all, shows-vertex}

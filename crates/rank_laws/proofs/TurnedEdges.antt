@@ -6,7 +6,7 @@ use Rattle.std.proofs.lemmas.Bool.{and_parts, ltb-true, eqb-true, or_cases}
 use Rattle.std.proofs.lemmas.List.{length-map}
 use Rattle.mesh_defs.specs.declared.Poly.{Poly}
 use Rattle.mesh_defs.specs.declared.Poly.TheVariants.{Vertex, Segment, Triangle, Quad, Tet, Hex}
-use Rattle.mesh_defs.specs.Lists.{same_list, sorted, picked}
+use Rattle.plain_lists.specs.Lists.{same_list, sorted, picked}
 use Rattle.mesh_defs.specs.Tables.{dim_of, corner_count, facets_of, edges_of}
 use Rattle.mesh_defs.specs.Orientation.{rotations, reflections, orientations, corners_under, act, relative}
 use Rattle.mesh_laws.proofs.Places.{all_weaker, all_both}

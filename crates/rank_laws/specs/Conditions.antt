@@ -3,7 +3,7 @@ use Rattle.std.specs.Prelude.{◌≡◌, ◌≢◌, slice_index, ◌⊎◌, ℕ,
 use Rattle.std.specs.List.{list_any, AllByRecursion}
 use Rattle.mesh_defs.specs.Tables.{dim_of, corner_count}
 use Rattle.mesh_defs.specs.Mesh.{Mesh, Cell}
-use Rattle.text_defs.specs.Triangles.{differ_as_sets}
+use Rattle.plain_lists.specs.Lists.{differ_as_sets}
 use Rattle.mesh_defs.specs.Points.{Point, contains}
 
 -- each vertex stands in some cell

@@ -5,18 +5,18 @@
 
 ghost use Rattle.std.specs.Prelude.{◌≡◌, ◌≢◌, if◌then◌else◌, Bool, ◌↔◌, ◌==◌, ◌<◌, ◌≤◌, ℕ, ◌+◌, List, None, Some, Option, Contains, IsPermutation, length, map, slice_index, slice_index_or, filter, filter_map, flat_map, option_and_then, true};
 ghost use Rattle.std.specs.List.{list_any};
-ghost use Rattle.mesh_defs.specs.Lists.{below, picked};
+ghost use Rattle.plain_lists.specs.Lists.{below, picked};
 ghost use Rattle.mesh_defs.specs.Tables.{Facet, facets_of};
 ghost use Rattle.mesh_defs.specs.Mesh.{Mesh, placed_cells};
 ghost use Rattle.mesh_defs.specs.Points.{Point, Sight, point_on, point_of, shows, sights, key, arrangement};
 ghost use Rattle.mesh_defs.specs.Diagram.{strata, chart, diagram, IsAccepted};
-ghost use Rattle.mesh_laws.specs.TriangleMesh.{points_differ};
-ghost use Rattle.rank_defs.specs.Closure.{IsArranged, arrangements};
-ghost use Rattle.rank_defs.specs.Forest.{Forest, IsForest, root_at, leaves_on, MeansSame, FitsLocals, root_of, compose, invert, shared_root, is_kept, embed_roots, embed_leaves};
+ghost use Rattle.mesh_defs.specs.Sights.{points_differ};
+ghost use Rattle.plex_defs.specs.Closure.{IsArranged, arrangements};
+ghost use Rattle.sf_defs.specs.Forest.{Forest, IsForest, root_at, leaves_on, MeansSame, FitsLocals, root_of, compose, invert, shared_root, is_kept, embed_roots, embed_leaves};
 ghost use Rattle.rank_defs.specs.Ranks.{IsAssignment, least, assigned, held_cells, held, owner, owned, own_key};
 ghost use Rattle.rank_defs.specs.Spread.{charts, point_forest, migration_forest, trace};
 ghost use Rattle.rank_defs.specs.Home.{home_points, IsHomeRound};
-ghost use Rattle.rank_defs.specs.Rounds.{Round};
+ghost use Rattle.sf_defs.specs.Rounds.{Round};
 ghost use Rattle.rank_laws.specs.Conditions.{UsesVertices, IsFlatOrSolid, IsSoundMesh, CellsDiffer, in_some};
 
 // ---- points

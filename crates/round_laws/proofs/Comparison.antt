@@ -1,10 +1,10 @@
 -- The order in which entries are printed is a total order, and strict between entries of different ranks.
 use Rattle.std.proofs.Common.{◌≡◌, ◌≢◌, ◌⊎◌, ℕ, Bool, true, false, not, ◌&&◌, ◌==◌, nat_lt, nat_le, refl, sym, ap, ◌∙◌, inl, inr, ⊎_elim, arith}
 use Rattle.std.proofs.lemmas.Bool.{true≢false, false≢true, lt-ltb, le-ltb, ltb-true, le-leb, leb-true, leb-false, and_parts, cases_lt}
-use Rattle.rank_defs.specs.declared.Op.{Op}
-use Rattle.rank_defs.specs.declared.Op.TheVariants.{Load, Sum, Min, Max, Or, And, Replace}
-use Rattle.rank_defs.specs.Asks.{Entry}
-use Rattle.rank_defs.specs.PrintedOrder.{fetched_before, changes, then_by, stands_before}
+use Rattle.sf_defs.specs.declared.Op.{Op}
+use Rattle.sf_defs.specs.declared.Op.TheVariants.{Load, Sum, Min, Max, Or, And, Replace}
+use Rattle.sf_defs.specs.Asks.{Entry}
+use Rattle.sf_defs.specs.PrintedOrder.{fetched_before, changes, then_by, stands_before}
 
 -- a strict order of classes: what is between two classes is in one of them or apart from one
 pub record IsStrict {X : Type 0} (lt : X → X → Bool) : Type 0 where

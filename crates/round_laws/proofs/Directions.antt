@@ -5,12 +5,12 @@ use Rattle.std.proofs.lemmas.Bool.{true≢false, lt-ltb, eq-eqb, ne_eqb}
 use Rattle.std.proofs.lemmas.Nat.{le_or_l}
 use lib.Bits.{and_le_l}
 use Rattle.std.proofs.lemmas.List.Sums.{sum_by-cons}
-use Rattle.rank_defs.specs.declared.Op.{Op}
-use Rattle.rank_defs.specs.declared.Op.TheVariants.{Load, Sum, Min, Max, Or, And, Replace}
-use Rattle.rank_defs.specs.declared.Ask.{Ask}
-use Rattle.rank_defs.specs.Asks.{step, Entry, after_ask, Replays}
-use Rattle.rank_defs.specs.PrintedOrder.{fetched_before, changes}
-use Rattle.rank_defs.specs.Rounds.{same_op, added}
+use Rattle.sf_defs.specs.declared.Op.{Op}
+use Rattle.sf_defs.specs.declared.Op.TheVariants.{Load, Sum, Min, Max, Or, And, Replace}
+use Rattle.sf_defs.specs.declared.Ask.{Ask}
+use Rattle.sf_defs.specs.Asks.{step, Entry, after_ask, Replays}
+use Rattle.sf_defs.specs.PrintedOrder.{fetched_before, changes}
+use Rattle.sf_defs.specs.Rounds.{same_op, added}
 use Rattle.round_laws.proofs.Replay.{MovesOn}
 
 -- the entry is a Load, or of the word's kind

@@ -5,11 +5,11 @@ use Rattle.std.specs.List.{AllByRecursion, enumerate_from}
 use Rattle.std.proofs.lemmas.Bool.{eq-eqb, ne_eqb, cond-true, cond-false}
 use Rattle.std.proofs.lemmas.List.{append-nil, map-append}
 use Rattle.std.proofs.lemmas.List.Elements.{filter-append}
-use Rattle.rank_defs.specs.declared.Op.TheVariants.{Load}
-use Rattle.rank_defs.specs.declared.Ask.{Ask}
-use Rattle.rank_defs.specs.declared.Turn.{Turn}
-use Rattle.rank_defs.specs.Asks.{Entry, of_rank, on_word, IsRising, HasOwnOrder}
-use Rattle.rank_defs.specs.Rounds.{rank_entries, entries, turn_of, entry_at, all_asks, asks_on, places_of, places_on}
+use Rattle.sf_defs.specs.declared.Op.TheVariants.{Load}
+use Rattle.sf_defs.specs.declared.Ask.{Ask}
+use Rattle.sf_defs.specs.declared.Turn.{Turn}
+use Rattle.sf_defs.specs.Asks.{Entry, of_rank, on_word, IsRising, HasOwnOrder}
+use Rattle.sf_defs.specs.Rounds.{rank_entries, entries, turn_of, entry_at, all_asks, asks_on, places_of, places_on}
 use Rattle.round_laws.proofs.Lists.{all_weaker, all_both}
 use Rattle.round_laws.proofs.Shuffles.{all_by_rank}
 use Rattle.round_laws.proofs.Word.{asks_of}

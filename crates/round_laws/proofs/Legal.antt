@@ -2,11 +2,11 @@
 use Rattle.std.proofs.Common.{◌≡◌, ℕ, ◌<◌, true, ◌==◌, List, [], ◌∷◌, map, length, get_or, refl, sym, ap, subst, ◌∙◌}
 use Rattle.std.specs.List.{AllByRecursion}
 use Rattle.std.proofs.lemmas.Bool.{eqb-true}
-use Rattle.rank_defs.specs.declared.Ask.{Ask}
-use Rattle.rank_defs.specs.declared.Turn.{Turn}
-use Rattle.rank_defs.specs.Asks.{Entry, Replays, of_rank, on_word, IsOrderOf}
-use Rattle.rank_defs.specs.PrintedOrder.{kind_of, stands_before, printed_order}
-use Rattle.rank_defs.specs.Rounds.{Round, SuitsWord, MeetsConditions, IsLegal, entries, entry_at, turn_of, printed_turns, in_order, places_of, places_on}
+use Rattle.sf_defs.specs.declared.Ask.{Ask}
+use Rattle.sf_defs.specs.declared.Turn.{Turn}
+use Rattle.sf_defs.specs.Asks.{Entry, Replays, of_rank, on_word, IsOrderOf}
+use Rattle.sf_defs.specs.PrintedOrder.{kind_of, stands_before, printed_order}
+use Rattle.sf_defs.specs.Rounds.{Round, SuitsWord, MeetsConditions, IsLegal, entries, entry_at, turn_of, printed_turns, in_order, places_of, places_on}
 use Rattle.round_laws.specs.ReplayingOrders.{HasReplayingOrders, IsPrinted}
 use Rattle.round_laws.proofs.Lists.{all_filter, all_weaker}
 use Rattle.round_laws.proofs.Shuffles.{rank_of_all}

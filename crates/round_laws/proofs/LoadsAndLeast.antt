@@ -2,12 +2,12 @@
 use Rattle.std.proofs.Common.{◌≡◌, ◌⊎◌, ℕ, ◌<◌, ◌≤◌, min, List, [], ◌∷◌, length, get_or, refl, sym, ap, subst, ◌∙◌, inl, inr, ⊎_elim, arith}
 use Rattle.std.specs.List.{AllByRecursion}
 use Rattle.std.proofs.lemmas.Bool.{cases_lt}
-use Rattle.rank_defs.specs.declared.Op.{Op}
-use Rattle.rank_defs.specs.declared.Op.TheVariants.{Load, Min}
-use Rattle.rank_defs.specs.declared.Ask.{Ask}
-use Rattle.rank_defs.specs.Asks.{step, Entry, after_ask, Replays, on_word}
-use Rattle.rank_defs.specs.PrintedOrder.{kind_of}
-use Rattle.rank_defs.specs.Rounds.{Round, IsLegal, entries, asks_on, in_order}
+use Rattle.sf_defs.specs.declared.Op.{Op}
+use Rattle.sf_defs.specs.declared.Op.TheVariants.{Load, Min}
+use Rattle.sf_defs.specs.declared.Ask.{Ask}
+use Rattle.sf_defs.specs.Asks.{step, Entry, after_ask, Replays, on_word}
+use Rattle.sf_defs.specs.PrintedOrder.{kind_of}
+use Rattle.sf_defs.specs.Rounds.{Round, IsLegal, entries, asks_on, in_order}
 use Rattle.round_laws.specs.LastValues.{word_after, IsLeast}
 use Rattle.round_laws.proofs.Lists.{all_weaker, all_mapped}
 use Rattle.round_laws.proofs.Shuffles.{all_shuffled}

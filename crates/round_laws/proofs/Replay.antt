@@ -2,9 +2,9 @@
 use Rattle.std.proofs.Common.{◌≡◌, ◌⊎◌, ℕ, ◌<◌, Bool, true, false, cond, not, ◌&&◌, ◌||◌, ◌==◌, nat_lt, nat_le, List, [], ◌∷◌, map, refl, sym, ap, subst, ◌∙◌, inl, inr, ⊎_elim, arith}
 use Rattle.std.specs.List.{AllByRecursion}
 use Rattle.std.proofs.lemmas.Bool.{true≢false, le-ltb, le-leb, eqb-true, cases_Bool}
-use Rattle.rank_defs.specs.declared.Op.{Op}
-use Rattle.rank_defs.specs.Asks.{Entry, after_ask, Replays, of_rank, IsRising, HasOwnOrder}
-use Rattle.rank_defs.specs.PrintedOrder.{fetched_before, changes, then_by, stands_before, placed, sorted_by}
+use Rattle.sf_defs.specs.declared.Op.{Op}
+use Rattle.sf_defs.specs.Asks.{Entry, after_ask, Replays, of_rank, IsRising, HasOwnOrder}
+use Rattle.sf_defs.specs.PrintedOrder.{fetched_before, changes, then_by, stands_before, placed, sorted_by}
 use Rattle.round_laws.proofs.Lists.{all_weaker, all_both, all_mapped}
 use Rattle.round_laws.proofs.Comparison.{strict_fetched, strict_irreflexive, strict_trans}
 use Rattle.round_laws.proofs.Shuffles.{of_rank-same, all_of_rank}

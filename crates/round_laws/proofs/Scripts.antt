@@ -6,12 +6,12 @@ use Rattle.std.proofs.lemmas.Bool.{eqb-true, eq-eqb, ne_eqb, cases_lt, both_ways
 use Rattle.std.proofs.lemmas.List.{length-map, length-set, get_or-set_same, get_or-set_other, get_or_past, append-nil, take-append-drop}
 use Rattle.std.proofs.lemmas.List.Elements.{filter-append}
 use Rattle.std.proofs.lemmas.List.FromFn.{length-enumerate_from}
-use Rattle.mesh_defs.specs.Lists.{below}
-use Rattle.rank_defs.specs.declared.Tag.{Tag}
-use Rattle.rank_defs.specs.declared.Ask.{Ask}
-use Rattle.rank_defs.specs.Asks.{Entry, after_ask, Replays, of_rank, on_word, IsOrderOf}
-use Rattle.rank_defs.specs.Rounds.{MeetsConditions, IsLegal, entries, rank_entries, printed_turns}
-use Rattle.rank_defs.specs.Script.{Event, queues, walk, words_after, fetching, words_after_all, fetched_by_rank, round_of, scripted}
+use Rattle.plain_lists.specs.Lists.{below}
+use Rattle.sf_defs.specs.declared.Tag.{Tag}
+use Rattle.sf_defs.specs.declared.Ask.{Ask}
+use Rattle.sf_defs.specs.Asks.{Entry, after_ask, Replays, of_rank, on_word, IsOrderOf}
+use Rattle.sf_defs.specs.Rounds.{MeetsConditions, IsLegal, entries, rank_entries, printed_turns}
+use Rattle.sf_defs.specs.Script.{Event, queues, walk, words_after, fetching, words_after_all, fetched_by_rank, round_of, scripted}
 use Rattle.round_laws.specs.ReplayingOrders.{HasReplayingOrders, IsScheduleOf}
 use Rattle.round_laws.proofs.Lists.{all_weaker}
 use Rattle.round_laws.proofs.Shuffles.{same_rank}

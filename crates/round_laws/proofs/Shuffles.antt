@@ -3,8 +3,8 @@ use Rattle.std.proofs.Common.{◌≡◌, ◌≢◌, ◌⊎◌, ℕ, ◌+◌, Boo
 use Rattle.std.specs.List.{AllByRecursion}
 use Rattle.std.proofs.lemmas.Bool.{true≢false, eqb-true, eq-eqb, ne_eqb, cond-true, cond-false, cases_Bool, both_ways}
 use Rattle.std.proofs.lemmas.List.Sums.{sum_by-cons}
-use Rattle.rank_defs.specs.declared.Ask.{Ask}
-use Rattle.rank_defs.specs.Asks.{Entry, of_rank, IsOrderOf}
+use Rattle.sf_defs.specs.declared.Ask.{Ask}
+use Rattle.sf_defs.specs.Asks.{Entry, of_rank, IsOrderOf}
 
 -- an entry's own rank has it
 pub of_rank-same : (rank : ℕ) (e : Entry) (es : List Entry) → e.rank ≡ rank → of_rank rank (e ∷ es) ≡ e ∷ of_rank rank es

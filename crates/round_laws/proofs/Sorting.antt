@@ -2,8 +2,8 @@
 use Rattle.std.proofs.Common.{◌≡◌, ◌≢◌, ℕ, Bool, true, false, cond, ◌==◌, List, [], ◌∷◌, refl, sym, ap, ◌∙◌}
 use Rattle.std.specs.List.{AllByRecursion}
 use Rattle.std.proofs.lemmas.Bool.{eqb-true, cond-true, cond-false, both_ways}
-use Rattle.rank_defs.specs.Asks.{Entry, of_rank, IsOrderOf}
-use Rattle.rank_defs.specs.PrintedOrder.{placed, sorted_by}
+use Rattle.sf_defs.specs.Asks.{Entry, of_rank, IsOrderOf}
+use Rattle.sf_defs.specs.PrintedOrder.{placed, sorted_by}
 use Rattle.round_laws.proofs.Comparison.{IsTotal}
 use Rattle.round_laws.proofs.Shuffles.{folded, folded-shuffled}
 

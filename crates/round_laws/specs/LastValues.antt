@@ -1,10 +1,10 @@
 -- What asks leave of a word, and which numbers Sums take.
 use Rattle.std.specs.Prelude.{◌≡◌, ◌⊎◌, ℕ, ◌+◌, ◌≤◌, Bool, ◌&&◌, nat_le, nat_lt, List, [], ◌∷◌}
 use Rattle.std.specs.List.{AllByRecursion}
-use Rattle.rank_defs.specs.declared.Op.TheVariants.{Min}
-use Rattle.rank_defs.specs.declared.Ask.{Ask}
-use Rattle.rank_defs.specs.Asks.{Entry, after_ask}
-use Rattle.rank_defs.specs.Rounds.{added}
+use Rattle.sf_defs.specs.declared.Op.TheVariants.{Min}
+use Rattle.sf_defs.specs.declared.Ask.{Ask}
+use Rattle.sf_defs.specs.Asks.{Entry, after_ask}
+use Rattle.sf_defs.specs.Rounds.{added}
 
 -- the word after these asks, one after another
 abbrev pub word_after : ℕ → List Ask → ℕ

@@ -1,10 +1,10 @@
 -- What a round's words have where steps on them were done one at a time.
 use Rattle.std.specs.Prelude.{◌≡◌, ℕ, ◌+◌, ◌<◌, ◌==◌, true, List, [], length, map, filter, get_or}
-use Rattle.rank_defs.specs.declared.Ask.{Ask}
-use Rattle.rank_defs.specs.Asks.{Entry, Replays, IsOrderOf, on_word}
-use Rattle.rank_defs.specs.PrintedOrder.{kind_of, stands_before}
-use Rattle.rank_defs.specs.Rounds.{Round, MeetsConditions, entries, printed_turns}
-use Rattle.rank_defs.specs.Script.{Event, queues}
+use Rattle.sf_defs.specs.declared.Ask.{Ask}
+use Rattle.sf_defs.specs.Asks.{Entry, Replays, IsOrderOf, on_word}
+use Rattle.sf_defs.specs.PrintedOrder.{kind_of, stands_before}
+use Rattle.sf_defs.specs.Rounds.{Round, MeetsConditions, entries, printed_turns}
+use Rattle.sf_defs.specs.Script.{Event, queues}
 
 -- each word has some order of its entries, each rank's own in its order, that replays from its first value to its last one
 abbrev pub HasReplayingOrders : Round → Type 0

@@ -5,7 +5,7 @@ use Rattle.std.specs.List.{position_or_len}
 use Rattle.std.proofs.lemmas.Bool.{lt-ltb, eqb-true, cond-true, cond-false}
 use Rattle.std.proofs.lemmas.List.{length-take-le, length-drop, drop_all, drop_more, get_or-take}
 use Rattle.std.proofs.lemmas.List.Sums.{prefix_len-le-length, passes_at_first, fails_before_first}
-use Rattle.text_defs.specs.Rows.{is_blank, is_newline, is_some_bytes, onto_first, parts, lines_of}
+use Rattle.line_defs.specs.Rows.{is_blank, is_newline, is_some_bytes, onto_first, parts, lines_of}
 use Rattle.scan_defs.specs.declared.Token.{Token}
 use Rattle.scan_defs.specs.Lines.{Line, lines_at, front, back}
 use Rattle.scan_defs.specs.Items.{Item, Header, Word, is_header, name_of, tokens_on, words_on, items_on, items_of}

@@ -3,7 +3,7 @@ use Rattle.std.proofs.Common.{◌≡◌, ℕ, suc, ◌+◌, ◌-◌, ◌*◌, �
 use Rattle.std.specs.List.{list_any, list_all, position_or_len, before_first, after_first}
 use Rattle.std.proofs.lemmas.Bool.{lt-ltb, le-ltb, and_parts, cases_lt}
 use Rattle.std.proofs.lemmas.List.{length-take, length-drop}
-use Rattle.text_defs.specs.Numbers.{is_digit, number_of_digits}
+use Rattle.line_defs.specs.Numbers.{is_digit, number_of_digits}
 use Rattle.scan_defs.specs.declared.NumberFault.TheVariants.{NotNumber, OutOfRange}
 use Rattle.scan_defs.specs.Numbers.{is_whole, is_sign, is_minus, unsigned, signed, Decimal, is_mark, is_point, mantissa, exponent, has_exponent, whole_part, fraction, is_fixed, power, decimal_of, scaled, fixed_value, fixed_of}
 use Rattle.scan_defs.proofs.Huge.{value-is, value-out}

@@ -1,6 +1,6 @@
 -- A cursor in bytes.
 use Rattle.std.specs.Prelude.{◌≡◌, ℕ, ◌+◌, ◌≤◌, ◌||◌, Bool, List, length}
-use Rattle.text_defs.specs.Rows.{is_blank, is_newline}
+use Rattle.line_defs.specs.Rows.{is_blank, is_newline}
 use Rattle.scan_defs.specs.declared.Token.{Token}
 use Rattle.scan_defs.specs.Lines.{line_number, is_indent, rest_of_line, back}
 use Rattle.scan_defs.specs.Items.{Spot}

@@ -2,7 +2,7 @@
 
 ghost use Rattle.std.specs.Prelude.{◌≡◌, ◌==◌, ◌&&◌, ◌+◌, ◌<◌, ◌≤◌, ◌∷◌, length, get_or, drop, nat_lt, not, true, false};
 ghost use Rattle.std.specs.List.{position_or_len};
-ghost use Rattle.text_defs.specs.Rows.{is_blank, is_newline};
+ghost use Rattle.line_defs.specs.Rows.{is_blank, is_newline};
 ghost use Rattle.scan_defs.specs.Lines.{line_end, behind_line, back};
 ghost use Rattle.scan_defs.specs.Items.{ahead, Word, Header};
 ghost use Rattle.scan_defs.specs.Quotes.{quoted_from};

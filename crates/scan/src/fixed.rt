@@ -2,7 +2,7 @@
 
 ghost use Rattle.std.specs.Prelude.{◌≡◌, ◌+◌, ◌*◌, ◌<◌, ◌≤◌, ◌^◌, length, IsTrue};
 ghost use Rattle.std.specs.List.{list_all};
-ghost use Rattle.text_defs.specs.Numbers.{is_digit};
+ghost use Rattle.line_defs.specs.Numbers.{is_digit};
 ghost use Rattle.scan_defs.specs.Numbers.{signed, fixed_of};
 ghost use Rattle.scan.specs.Rounding.{kept_places, size_of};
 

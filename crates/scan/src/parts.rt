@@ -2,7 +2,7 @@
 
 ghost use Rattle.std.specs.Prelude.{◌≡◌, ◌++◌, false, option_map, position, MatchOption};
 ghost use Rattle.std.specs.List.{list_all, before_first, after_first};
-ghost use Rattle.text_defs.specs.Numbers.{is_digit};
+ghost use Rattle.line_defs.specs.Numbers.{is_digit};
 ghost use Rattle.scan_defs.specs.Numbers.{is_whole, is_mark, is_point, is_fixed};
 ghost use Rattle.scan.specs.Parts.{behind_first, power_read, HasParts};
 

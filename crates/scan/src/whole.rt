@@ -1,7 +1,7 @@
 //! Whole numbers.
 
 ghost use Rattle.std.specs.Prelude.{◌≡◌, ◌-◌, ◌^◌, min, if◌then◌else◌, Some, None};
-ghost use Rattle.text_defs.specs.Numbers.{is_digit, number_of_digits};
+ghost use Rattle.line_defs.specs.Numbers.{is_digit, number_of_digits};
 ghost use Rattle.scan_defs.specs.Numbers.{is_whole, is_minus, unsigned, uint_of, int_of};
 
 use scan_defs::NumberFault;

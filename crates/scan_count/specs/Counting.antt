@@ -1,6 +1,6 @@
 -- What is counted in a file.
 use Rattle.std.specs.Prelude.{ℕ, ◌+◌, ◌*◌, ◌%◌, ◌^◌, ◌≤◌, ◌==◌, ◌&&◌, not, nat_lt, if◌then◌else◌, Bool, true, false, List, [], ◌∷◌, ◌++◌, codes, ℤ, pos, neg_ℤ, ◌+ℤ◌, ◌≤ℤ◌, Result, Ok, Err}
-use Rattle.mesh_defs.specs.Lists.{same_list}
+use Rattle.plain_lists.specs.Lists.{same_list}
 use Rattle.scan_defs.specs.declared.Token.{Token}
 use Rattle.scan_defs.specs.declared.NumberFault.{NumberFault}
 use Rattle.scan_defs.specs.Items.{Item, Header, Word, text_of, body}

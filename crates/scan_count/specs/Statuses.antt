@@ -1,6 +1,6 @@
 -- What becomes of a fault: the trouble and its exit status; and the text of what was counted.
 use Rattle.std.specs.Prelude.{ℕ, List, ◌++◌, codes, decimal}
-use Rattle.text_defs.specs.Numbers.{fixed_text}
+use Rattle.line_defs.specs.Numbers.{fixed_text}
 use Rattle.shelf_io.specs.declared.shelf.ShelfFault.{ShelfFault}
 use Rattle.shelf_io.specs.declared.shelf.ShelfFault.TheVariants as fault
 use Rattle.scan_count.specs.declared.counting.Counts.{Counts}

@@ -8,7 +8,7 @@ use Rattle.std.proofs.lemmas.Bool.{le-leb, lt-leb, and_parts, leb-true}
 use Rattle.std.proofs.lemmas.List.{length-map}
 use Rattle.std.proofs.lemmas.Nat.{mul-le}
 use Rattle.std.proofs.Math.Nat.{pow-le-pow_right, pow-suc, zero-mul, div-eq_of_lt}
-use Rattle.text_defs.specs.Numbers.{is_digit, number_of_digits}
+use Rattle.line_defs.specs.Numbers.{is_digit, number_of_digits}
 use Rattle.scan_defs.specs.declared.NumberFault.TheVariants.{OutOfRange}
 use Rattle.scan_defs.specs.Numbers.{Decimal, scaled, signed, magnitude, fixed_value}
 

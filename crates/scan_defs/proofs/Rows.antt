@@ -3,7 +3,7 @@ use Rattle.std.proofs.Common.{◌≡◌, ℕ, true, false, List, [], ◌∷◌, 
 use Rattle.std.specs.Prelude.{codes}
 use Rattle.scan_defs.specs.declared.Token.{Token}
 use Rattle.scan_defs.specs.declared.NumberFault.TheVariants.{NotNumber, OutOfRange}
-use Rattle.text_defs.specs.Rows.{lines_of}
+use Rattle.line_defs.specs.Rows.{lines_of}
 use Rattle.scan_defs.specs.Lines.{line_number, lines_from, is_indent, line_end, behind_line}
 use Rattle.scan_defs.specs.Items.{Item, Header, Word, Spot, text_of, is_header, name_of, tokens_on, items_on, items_of, ahead, items, body}
 use Rattle.scan_defs.specs.Quotes.{quoted_on, quoted_from, quoted_in}

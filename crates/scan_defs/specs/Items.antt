@@ -1,6 +1,6 @@
 -- Header lines and tokens in the order of the file. A body is the tokens up to the next header line.
 use Rattle.std.specs.Prelude.{ℕ, ◌+◌, ◌==◌, Bool, if◌then◌else◌, List, [], ◌∷◌, ◌++◌, length, map, flat_map, get_or, slice_range}
-use Rattle.text_defs.specs.Rows.{is_blank, parts, is_some_bytes}
+use Rattle.line_defs.specs.Rows.{is_blank, parts, is_some_bytes}
 use Rattle.scan_defs.specs.declared.Token.{Token}
 use Rattle.scan_defs.specs.Lines.{Line, lines_from, is_indent, front, back}
 

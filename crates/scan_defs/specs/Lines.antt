@@ -2,7 +2,7 @@
 -- before it.
 use Rattle.std.specs.Prelude.{ℕ, ◌+◌, ◌-◌, Bool, not, List, [], ◌∷◌, length, take, drop, reverse, count_by, take_while, min}
 use Rattle.std.specs.List.{list_all, prefix_len, suffix_len, before_first}
-use Rattle.text_defs.specs.Rows.{is_blank, is_newline, lines_of}
+use Rattle.line_defs.specs.Rows.{is_blank, is_newline, lines_of}
 
 -- a line, or what is left of one: the place of its first byte, its number in the file, and its bytes without LF
 pub record Line : Type 0 where

@@ -1,7 +1,7 @@
 -- Quoted texts. One stands alone on a line, or on what is left of it.
 use Rattle.std.specs.Prelude.{ℕ, ◌+◌, ◌-◌, ◌==◌, ◌&&◌, Bool, not, nat_le, if◌then◌else◌, List, [], ◌∷◌, length, get_or, find, Option, Some, None, Result, Ok, Err}
 use Rattle.std.specs.List.{list_all}
-use Rattle.text_defs.specs.Rows.{is_blank}
+use Rattle.line_defs.specs.Rows.{is_blank}
 use Rattle.scan_defs.specs.declared.Token.{Token}
 use Rattle.scan_defs.specs.Lines.{Line, line_number, lines_from, rest_of_line, front, back}
 use Rattle.scan_defs.specs.Items.{Item, Header, Word, Spot}

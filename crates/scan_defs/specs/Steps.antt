@@ -1,5 +1,5 @@
 -- What the calls of a scan answer, and where it stands after them.
-use Rattle.std.specs.Prelude.{ℕ, ◌-◌, ◌==◌, Bool, if◌then◌else◌, List, [], ◌∷◌, length, Option, Some, None, Result, Ok, Err}
+use Rattle.std.specs.Prelude.{ℕ, ◌-◌, ◌==◌, Bool, false, if◌then◌else◌, List, [], ◌∷◌, length, Option, Some, None, Result, Ok, Err}
 use Rattle.scan_defs.specs.declared.Token.{Token}
 use Rattle.scan_defs.specs.Lines.{line_number, line_end, behind_line}
 use Rattle.scan_defs.specs.Items.{Item, Header, Word, Spot}
@@ -56,11 +56,12 @@ abbrev pub place_after_quoted : Spot → Result Token ℕ → ℕ
 place_after_quoted s (Err line) = s.place
 place_after_quoted s (Ok text) = line_end s.bytes text.start
 
+-- the item is a token of this line
 abbrev pub is_on : ℕ → Item → Bool
-is_on number (Header name) = name.line == number
+is_on number (Header name) = false
 is_on number (Word token) = token.line == number
 
--- the items behind those of a line
+-- the items after the tokens of a line
 abbrev pub behind_items_on : ℕ → List Item → List Item
 behind_items_on number [] = []
 behind_items_on number (item ∷ items) = if is_on number item then behind_items_on number items else item ∷ items

@@ -9,7 +9,7 @@ use Rattle.mesh_defs.specs.Tables.{dim_of}
 use Rattle.mesh_defs.specs.Mesh.{Mesh, Cell, placed_cells}
 use Rattle.mesh_defs.specs.Points.{Point, Sight, shows}
 use Rattle.mesh_defs.specs.Diagram.{chart, cone, count_in, place_in}
-use Rattle.text_defs.specs.Numbers.{fixed_text}
+use Rattle.line_defs.specs.Numbers.{fixed_text}
 
 -- What one rank has: its assigned cells, the points that it holds and those that it owns, in the order of its chart,
 -- and the base of its numbers.

@@ -1,7 +1,7 @@
 use Rattle.std.specs.List.{list_any, AllByRecursion}
 use Rattle.std.proofs.Common.{◌≡◌, true}
 use Rattle.std.proofs.lemmas.List.Elements.{All-contains, All-from_recursion}
-use Rattle.mesh_defs.specs.Lists.{picked}
+use Rattle.plain_lists.specs.Lists.{picked}
 use Rattle.mesh_defs.specs.Tables.{Facet, facets_of}
 use Rattle.mesh_defs.specs.Points.{Sight, point_on, shows}
 use Rattle.rank_defs.specs.Ranks.{held}

@@ -1,6 +1,6 @@
 use Rattle.std.proofs.Common.{◌≡◌, ◌++◌, take, string_bytes}
 use Rattle.std.specs.Prelude.{codes, flat_map}
-use Rattle.text_defs.specs.Numbers.{fixed_text}
+use Rattle.line_defs.specs.Numbers.{fixed_text}
 use Rattle.plex_job.proofs.line.push_at.Given as goal
 
 abbrev pub invariant-loop-x : goal.invariant-loop-x

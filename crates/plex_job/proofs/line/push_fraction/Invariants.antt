@@ -1,5 +1,5 @@
 use Rattle.std.proofs.Common.{◌≡◌, ◌++◌, ◌^◌, ◌<◌, string_bytes}
-use Rattle.text_defs.specs.Numbers.{fraction_digits}
+use Rattle.line_defs.specs.Numbers.{fraction_digits}
 use Rattle.plex_job.proofs.line.push_fraction.Given as goal
 
 -- what is written, and the digits that are left, make the text

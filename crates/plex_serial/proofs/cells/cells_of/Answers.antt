@@ -2,7 +2,7 @@ use Rattle.std.proofs.Common.{◌≡◌, List, ℕ, [], ◌∷◌, ◌++◌, map
 use Rattle.std.specs.Prelude.{pos}
 use Rattle.std.proofs.lemmas.List.{map_more, take_all}
 use Rattle.std.proofs.lemmas.Option.{get_or_from_slice_get}
-use Rattle.text_defs.specs.Content.{Element}
+use Rattle.input_defs.specs.Content.{Element}
 use Rattle.plex_serial.specs.Corners.{positions_at}
 use Rattle.plex_serial.proofs.Numbers.{positions-are}
 use Rattle.plex_serial.proofs.cells.cells_of.Goals as goal

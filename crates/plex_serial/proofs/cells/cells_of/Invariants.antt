@@ -1,5 +1,5 @@
 use Rattle.std.proofs.Common.{◌≡◌, map, take}
-use Rattle.text_defs.specs.Content.{Element}
+use Rattle.input_defs.specs.Content.{Element}
 use Rattle.plex_serial.specs.Corners.{positions_at}
 use Rattle.plex_serial.proofs.cells.cells_of.Given as goal
 

@@ -2,8 +2,8 @@ use Rattle.std.proofs.Common.{◌≡◌, ◌-◌, map, length, ap, ◌∙◌, ar
 use Rattle.mesh_defs.specs.Mesh.{placed_cells}
 use Rattle.mesh_defs.specs.Points.{Sight}
 use Rattle.mesh_defs.specs.Diagram.{chart, diagram}
-use Rattle.text_defs.specs.Triangles.{triangle_mesh}
-use Rattle.mesh_laws.proofs.TriangleContent.{triangle_mesh-is}
+use Rattle.triangle_defs.specs.Triangles.{triangle_mesh}
+use Rattle.triangle_laws.proofs.TriangleContent.{triangle_mesh-is}
 use Rattle.plex_serial.specs.Edges.{sight_of, placed, edges_among}
 use Rattle.plex_serial.specs.Keys.{numbers}
 use Rattle.plex_serial.proofs.Contents.{vertex_places, length-corners_of, vertices-few, places-same, unused-is, drawn-apart, drawn-ends, drawn-few, length-drawn, drawn-cones, drawn-diagram, drawn-keys}

@@ -1,7 +1,7 @@
 use Rattle.std.proofs.Common.{◌≡◌, ◌+◌, ◌*◌, List, [], ◌∷◌, map, sym, ap, ◌∙◌, arith}
 use Rattle.std.specs.Prelude.{slice_index}
 use Rattle.mesh_defs.specs.Points.{Sight}
-use Rattle.mesh_laws.specs.TriangleMesh.{edge_sight, entry_among}
+use Rattle.mesh_defs.specs.Sights.{edge_sight, entry_among}
 use Rattle.plex_serial.specs.Edges.{with_sight, with_sights}
 use Rattle.plex_serial.proofs.Joins.{entries-three}
 use Rattle.plex_serial.proofs.joining.cell_cone.Goals as goal

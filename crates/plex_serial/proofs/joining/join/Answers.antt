@@ -2,7 +2,7 @@ use Rattle.std.proofs.Common.{◌≡◌, ℕ, ◌+◌, List, [], ◌∷◌, ◌+
 use Rattle.std.proofs.lemmas.List.{take_all, length-take}
 use Rattle.mesh_defs.specs.Mesh.{Cell}
 use Rattle.mesh_defs.specs.Points.{Sight}
-use Rattle.mesh_laws.specs.TriangleMesh.{edge_sights_of}
+use Rattle.triangle_laws.specs.TriangleMesh.{edge_sights_of}
 use Rattle.plex_serial.specs.Corners.{triangle_on}
 use Rattle.plex_serial.specs.Edges.{with_sights, placed, edges_among, cone_among}
 use Rattle.plex_serial.proofs.Joins.{edges_among-push, cones-push, length-edges_among, placed-more, length-placed}

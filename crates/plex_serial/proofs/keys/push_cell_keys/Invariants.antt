@@ -1,5 +1,5 @@
 use Rattle.std.proofs.Common.{◌≡◌, ◌*◌, ◌++◌, map}
-use Rattle.mesh_defs.specs.Lists.{below}
+use Rattle.plain_lists.specs.Lists.{below}
 use Rattle.plex_serial.specs.Keys.{numbers}
 use Rattle.plex_serial.proofs.keys.push_cell_keys.Given as goal
 

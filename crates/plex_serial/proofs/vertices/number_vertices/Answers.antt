@@ -2,8 +2,8 @@ use Rattle.std.proofs.Common.{Vec, Global, ◌≡◌, ℕ, ℤ, ◌<◌, Bool, f
 use Rattle.std.specs.List.{count_by}
 use Rattle.std.proofs.lemmas.List.{get_or-map, get_or_append_left, get_or_push, length_push, length-map}
 use Rattle.std.proofs.lemmas.Option.{get_or_from_slice_get}
-use Rattle.text_defs.specs.Content.{Node}
-use Rattle.text_defs.specs.Triangles.{is_used}
+use Rattle.input_defs.specs.Content.{Node}
+use Rattle.triangle_defs.specs.Triangles.{is_used}
 use Rattle.plex_serial.proofs.Numbers.{length-places, length-places_taken, places-used, places-unused}
 use Rattle.plex_serial.proofs.vertices.number_vertices.Goals as goal
 use Rattle.plex_serial.proofs.vertices.number_vertices.Goals.{then-is_used+in_ok-push-2, else-is_used}

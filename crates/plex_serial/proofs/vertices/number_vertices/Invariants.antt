@@ -1,7 +1,7 @@
 use Rattle.std.proofs.Common.{◌≡◌, ℕ, ◌<◌, length, map, get_or, take}
 use Rattle.std.specs.List.{filter, count_by}
-use Rattle.text_defs.specs.Content.{Node}
-use Rattle.text_defs.specs.Triangles.{is_used}
+use Rattle.input_defs.specs.Content.{Node}
+use Rattle.triangle_defs.specs.Triangles.{is_used}
 use Rattle.plex_serial.proofs.vertices.number_vertices.Given as goal
 
 abbrev pub invariant-loop-i : goal.invariant-loop-i

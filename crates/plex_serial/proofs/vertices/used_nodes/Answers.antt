@@ -2,7 +2,7 @@ use Rattle.std.proofs.Common.{◌≡◌, ◌+◌, Bool, List, [], ◌++◌, leng
 use Rattle.std.specs.Prelude.{pos}
 use Rattle.std.proofs.lemmas.List.{take_at, drop_more, drop_all}
 use Rattle.std.proofs.lemmas.Option.{get_or_from_slice_get}
-use Rattle.text_defs.specs.Content.{Element}
+use Rattle.input_defs.specs.Content.{Element}
 use Rattle.plex_serial.specs.Marks.{flagged, flagged_by}
 use Rattle.plex_serial.proofs.Marks.{length-flagged, flags-are}
 use Rattle.plex_serial.proofs.vertices.used_nodes.Goals as goal

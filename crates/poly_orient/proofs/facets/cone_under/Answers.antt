@@ -2,7 +2,7 @@ use Rattle.std.proofs.Common.{◌≡◌, ◌<◌, ℕ, ℤ, w8, length, sym, ap,
 use Rattle.std.proofs.lemmas.Int.{to_z-of_z}
 use mir.Val.{SFits, to_z, of_z}
 use Rattle.mesh_defs.specs.declared.Poly.{Poly}
-use Rattle.mesh_defs.specs.Lists.{picked}
+use Rattle.plain_lists.specs.Lists.{picked}
 use Rattle.mesh_defs.specs.Tables.{facets_of, facet_at}
 use Rattle.mesh_defs.specs.Orientation.{act}
 use Rattle.poly_orient.specs.declared.turn.Turn.{Turn}

@@ -1,6 +1,6 @@
 use Rattle.std.proofs.Common.{◌≡◌, w8, sym, ap, ◌∙◌, subst}
 use Rattle.std.proofs.lemmas.Int.{to_z-of_z}
-use Rattle.mesh_defs.specs.Lists.{picked}
+use Rattle.plain_lists.specs.Lists.{picked}
 use Rattle.mesh_defs.specs.Orientation.{act}
 use Rattle.poly_orient.specs.Group.{IsOrientation}
 use Rattle.poly_orient.specs.Turning.{turn_of, corners_turned}

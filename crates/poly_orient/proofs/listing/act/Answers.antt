@@ -1,7 +1,7 @@
 use Rattle.std.proofs.Common.{◌≡◌, ◌<◌, ◌≤◌, w8, length, [], ◌∷◌, ◌++◌, get_or, refl, sym, ap, ◌∙◌, subst, arith}
 use Rattle.std.proofs.lemmas.List.{take_more, take_more_set, take_all, get_or-map, length-map, length-set}
 use Rattle.std.proofs.lemmas.Int.{to_z-of_z}
-use Rattle.mesh_defs.specs.Lists.{picked}
+use Rattle.plain_lists.specs.Lists.{picked}
 use Rattle.mesh_defs.specs.Tables.{corner_count}
 use Rattle.mesh_defs.specs.Orientation.{act}
 use Rattle.poly_orient.specs.Group.{IsOrientation}

@@ -1,5 +1,5 @@
 use Rattle.std.proofs.Common.{◌≡◌, length, take}
-use Rattle.mesh_defs.specs.Lists.{picked}
+use Rattle.plain_lists.specs.Lists.{picked}
 use Rattle.mesh_defs.specs.Tables.{corner_count}
 use Rattle.poly_orient.specs.Turning.{corners_turned}
 use Rattle.poly_orient.proofs.listing.act.Given as goal

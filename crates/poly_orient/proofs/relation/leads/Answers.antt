@@ -1,6 +1,6 @@
 use Rattle.std.proofs.Common.{◌≡◌, ◌<◌, ◌≤◌, length, get_or, [], ◌∷◌, ◌++◌, sym, ap, ◌∙◌, arith, refl}
 use Rattle.std.proofs.lemmas.List.{take_more, take_all, get_or-map, length-map}
-use Rattle.mesh_defs.specs.Lists.{picked}
+use Rattle.plain_lists.specs.Lists.{picked}
 use Rattle.mesh_defs.specs.Tables.{corner_count}
 use Rattle.poly_orient.specs.Turning.{corners_turned}
 use Rattle.poly_orient.proofs.Listed.{length_corners}

@@ -3,7 +3,7 @@ use Rattle.std.specs.Prelude.{◌==◌, IfNone}
 use Rattle.std.specs.List.{position}
 use Rattle.std.proofs.lemmas.Bool.{false≢true}
 use Rattle.std.proofs.lemmas.Int.{to_z-of_z}
-use Rattle.mesh_defs.specs.Lists.{picked}
+use Rattle.plain_lists.specs.Lists.{picked}
 use Rattle.mesh_defs.specs.Orientation.{act}
 use Rattle.poly_orient.specs.Group.{IsOrientation}
 use Rattle.poly_orient.specs.Turning.{corners_turned, second, telling}

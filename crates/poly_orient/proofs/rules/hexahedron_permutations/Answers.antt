@@ -4,7 +4,7 @@ use Rattle.std.proofs.lemmas.Bool.{and_parts, not-true, not_from_false}
 use Rattle.std.proofs.lemmas.List.{take_all, get_or-take, length-take}
 use Rattle.std.proofs.lemmas.List.Elements.{All-get_or}
 use Rattle.mesh_defs.specs.declared.Poly.TheVariants.{Hex}
-use Rattle.mesh_defs.specs.Lists.{below}
+use Rattle.plain_lists.specs.Lists.{below}
 use Rattle.mesh_defs.specs.Orientation.{rotations, reflections, act, corners_under}
 use Rattle.poly_orient.specs.Rules.{IsOrder, KeepsEdges, are_joined, keeps_facets}
 use Rattle.poly_orient.proofs.Rows.{below_all}

@@ -3,8 +3,8 @@ use Rattle.std.specs.Prelude.{slice_index, if◌then◌else◌}
 use Rattle.std.specs.List.{list_any, position_or_len}
 use Rattle.std.proofs.lemmas.Bool.{not-true, not-false, cond-true, cond-false, eq-eqb, ne_eqb}
 use Rattle.mesh_defs.specs.declared.ConeEntry.{ConeEntry}
-use Rattle.mesh_defs.specs.Lists.{same_list, sorted}
-use Rattle.mesh_laws.specs.TriangleMesh.{edge_sight, entry_among}
+use Rattle.plain_lists.specs.Lists.{same_list, sorted}
+use Rattle.mesh_defs.specs.Sights.{edge_sight, entry_among}
 use Rattle.plex_serial.specs.declared.edges.Edge.{Edge}
 use Rattle.plex_serial.specs.Edges.{sight_of, with_sight}
 use Rattle.plex_serial.proofs.Places.{table-new, entry-new, table-found, entry-found}

@@ -1,0 +1,5 @@
+pub mod Asks
+pub mod PrintedOrder
+pub mod Rounds
+pub mod Script
+pub mod Forest

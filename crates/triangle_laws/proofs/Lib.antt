@@ -1,0 +1,2 @@
+pub mod TriangleDiagram
+pub mod TriangleContent
