@@ -11,7 +11,7 @@ use Rattle.mesh_laws.proofs.Places.{find-append_found, find-append_none, positio
 use Rattle.mesh_laws.proofs.Containing.{length-below, shows-vertex}
 
 -- the vertices below n
-vertex_above : (n v : ℕ) → n ≤ v → list_any (shows (point_of (vertex_sight v))) (map vertex_sight (below n)) ≡ false
+pub vertex_above : (n v : ℕ) → n ≤ v → list_any (shows (point_of (vertex_sight v))) (map vertex_sight (below n)) ≡ false
 vertex_above zero v h = refl
 vertex_above (suc n) v h =
     ap (list_any (shows (point_of (vertex_sight v)))) (map-append vertex_sight (below n) (n ∷ []))
@@ -19,7 +19,7 @@ vertex_above (suc n) v h =
     ∙ ap₂ (λ s t. s || (t || false)) (vertex_above n v (omega arith)) (shows-vertex v n ∙ ne_eqb v n (λ e. omega arith))
 
 -- a vertex below n is shown
-vertex_below : (n v : ℕ) → v < n → list_any (shows (point_of (vertex_sight v))) (map vertex_sight (below n)) ≡ true
+pub vertex_below : (n v : ℕ) → v < n → list_any (shows (point_of (vertex_sight v))) (map vertex_sight (below n)) ≡ true
 vertex_below zero v h = absurd (omega arith)
 vertex_below (suc n) v h =
     ap (list_any (shows (point_of (vertex_sight v)))) (map-append vertex_sight (below n) (n ∷ []))
