@@ -148,9 +148,9 @@ abbrev pub AreTold : Asking → Call → Type 0
 AreTold a c = (name : List ℕ) → Contains a.names name → IsTold (c.file name)
 
 -- the status that files give
-abbrev pub ending : Result Task Refusal → Status
-ending (Ok task) = Done
-ending (Err refusal) = refusal.status
+abbrev pub status_given : Result Task Refusal → Status
+status_given (Ok task) = Done
+status_given (Err refusal) = refusal.status
 
 -- ---- the headline
 
@@ -164,4 +164,4 @@ pub record Headline (a : Asking) (c : Call) : Type 0 where
   pub kept : c.kept_after ≡ c.kept_before ++ added
   pub rounds : AreFirstRounds (a.fitting files) added
   pub cause : HasCause a c files added c.status
-  pub complete : AreTold a c → (Rises c.shelf_before c.shelf_after → ⊥) → (Rises c.sink_before c.sink_after → ⊥) → (c.status ≡ ending (given a files)) ⊎ (c.status ≡ NoMemory)
+  pub complete : AreTold a c → (Rises c.shelf_before c.shelf_after → ⊥) → (Rises c.sink_before c.sink_after → ⊥) → (c.status ≡ status_given (given a files)) ⊎ (c.status ≡ NoMemory)

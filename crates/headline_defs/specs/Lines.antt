@@ -9,7 +9,7 @@ use Rattle.sf_defs.specs.Asks.{Entry}
 use Rattle.input_defs.specs.Plans.{Move, Part, Layers, DofsLine}
 use Rattle.input_defs.specs.Further.{labels_text, data_text}
 
--- a number behind a blank
+-- a number after a blank
 abbrev pub also : ℕ → List ℕ
 also n = codes " " ++ decimal n
 
@@ -21,7 +21,7 @@ move_line place (Layers k) = line (codes "step" ++ also place ++ codes " overlap
 unfoldable pub ghost_line : ℕ → ℕ → ℕ → List ℕ
 ghost_line rank owner count = line (codes "ghost" ++ also rank ++ also owner ++ also count)
 
--- what stands behind the tag of a point: its cone, the coordinates of a vertex, label values, data
+-- what stands after the tag of a point: its cone, the coordinates of a vertex, label values, data
 unfoldable pub point_tail : Mesh → List DofsLine → List ConeEntry → Sight → List ℕ
 point_tail m dofs cone s = tail_text s.poly cone (get_or m.at s.key []) ++ labels_text m (point_of s) ++ data_text m dofs s
 

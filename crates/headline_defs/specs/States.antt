@@ -22,21 +22,21 @@ abbrev pub after_move : ℕ → ℕ → State → Move → State
 after_move ranks cells s (Part spread) = record { move = Part spread; ranks = assignment ranks cells spread; layers = 0; steps = s.steps + 1; parts = s.parts + 1 }
 after_move ranks cells s (Layers k) = record { move = Layers k; ranks = s.ranks; layers = layers_with s.layers (Layers k); steps = s.steps + 1; parts = s.parts }
 
-abbrev pub states_behind : ℕ → ℕ → State → List Move → List State
-states_behind ranks cells s [] = []
-states_behind ranks cells s (move ∷ moves) = after_move ranks cells s move ∷ states_behind ranks cells (after_move ranks cells s move) moves
+abbrev pub states_after : ℕ → ℕ → State → List Move → List State
+states_after ranks cells s [] = []
+states_after ranks cells s (move ∷ moves) = after_move ranks cells s move ∷ states_after ranks cells (after_move ranks cells s move) moves
 
 -- before the first step
-abbrev pub at_first : State
-at_first = record { move = Layers 0; ranks = []; layers = 0; steps = 0; parts = 0 }
+abbrev pub before_any_step : State
+before_any_step = record { move = Layers 0; ranks = []; layers = 0; steps = 0; parts = 0 }
 
 -- the states of all steps of a plan; the first of them is a part
 unfoldable pub states : Mesh → Plan → List State
-states m plan = states_behind plan.ranks (length m.cells) at_first (map (λ (move : ℕ × Move). move.1) plan.moves)
+states m plan = states_after plan.ranks (length m.cells) before_any_step (map (λ (move : ℕ × Move). move.1) plan.moves)
 
 -- the rank of each cell under the plan's first part
 unfoldable pub first_ranks : Mesh → Plan → List ℕ
-first_ranks m plan = (get_or (states m plan) 0 at_first).ranks
+first_ranks m plan = (get_or (states m plan) 0 before_any_step).ranks
 
 -- how many parts the plan has
 abbrev pub count_parts : List State → ℕ

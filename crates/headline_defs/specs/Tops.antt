@@ -56,13 +56,13 @@ abbrev pub picks_in : List (List ℕ) → Option (List ℕ)
 picks_in [] = None
 picks_in (word ∷ words) = picks_of word
 
-abbrev pub behind_picks : List (List ℕ) → List (List ℕ)
-behind_picks [] = []
-behind_picks (word ∷ words) = words
+abbrev pub after_picks : List (List ℕ) → List (List ℕ)
+after_picks [] = []
+after_picks (word ∷ words) = words
 
 -- what the words of a replay ask
 unfoldable pub replay_asking : List (List ℕ) → Asking
-replay_asking words = asking_where (picks_in words) (behind_picks words)
+replay_asking words = asking_where (picks_in words) (after_picks words)
 
 -- the rounds are the first that the picks give
 abbrev pub AreByPicks : Option (List ℕ) → Result Task Refusal → List Round → Type 0

@@ -64,12 +64,12 @@ module _ (x : Subject) (rounds : List Round) (n : ℕ) where
   drawn : ℕ
   drawn = length (take n rounds) - 1
 
-  -- the known steps, and those behind them
+  -- the known steps, and those after them
   front : List State
   front = known_steps drawn (states x.mesh x.plan)
 
-  behind : List State
-  behind = later_steps drawn (states x.mesh x.plan)
+  later : List State
+  later = later_steps drawn (states x.mesh x.plan)
 
   -- where a part has drawn its numbers, the known steps have the same text by all rounds
   front-text : drawn ≢ 0 → flat_map (step_text x (take n rounds)) front ≡ flat_map (step_text x rounds) front
@@ -77,19 +77,19 @@ module _ (x : Subject) (rounds : List Round) (n : ℕ) where
   front-text some = same_texts x rounds n drawn front (omega (arith, some, length-take n rounds)) (known-drawn drawn (states x.mesh x.plan))
 
   -- the whole text is the known steps, and then the others
-  whole-parts : whole_text x rounds ≡ (full_head x.mesh x.plan.dofs x.plan.ranks ++ flat_map (step_text x rounds) front) ++ (flat_map (step_text x rounds) behind ++ end_line)
-  unfolding whole_text text_of_steps front behind
+  whole-parts : whole_text x rounds ≡ (full_head x.mesh x.plan.dofs x.plan.ranks ++ flat_map (step_text x rounds) front) ++ (flat_map (step_text x rounds) later ++ end_line)
+  unfolding whole_text text_of_steps front later
   whole-parts =
       let head = full_head x.mesh x.plan.dofs x.plan.ranks in
       ap (λ steps. (head ++ flat_map (step_text x rounds) steps) ++ end_line) (known-front drawn (states x.mesh x.plan))
-      ∙ ap (λ t. (head ++ t) ++ end_line) (flat_map-append (step_text x rounds) front behind)
+      ∙ ap (λ t. (head ++ t) ++ end_line) (flat_map-append (step_text x rounds) front later)
       ∙ simp append_assoc
 
   -- where all steps are known, the text is whole
   all-known : drawn ≢ 0 → length front ≡ length (states x.mesh x.plan) → whole_text x (take n rounds) ≡ whole_text x rounds
-  unfolding whole_text text_of_steps front behind
+  unfolding whole_text text_of_steps front later
   all-known some all =
-      let none : behind ≡ [] = only_nothing behind (omega (arith, ap length (known-front drawn (states x.mesh x.plan)), length-append front behind)) in
+      let none : later ≡ [] = only_nothing later (omega (arith, ap length (known-front drawn (states x.mesh x.plan)), length-append front later)) in
       let same : states x.mesh x.plan ≡ front = known-front drawn (states x.mesh x.plan) ∙ ap (λ l. front ++ l) none ∙ append-nil front in
       ap (λ steps. (full_head x.mesh x.plan.dofs x.plan.ranks ++ flat_map (step_text x (take n rounds)) steps) ++ end_line) same
       ∙ ap (λ t. (full_head x.mesh x.plan.dofs x.plan.ranks ++ t) ++ end_line) (front-text some)
@@ -113,4 +113,4 @@ module _ (x : Subject) (rounds : List Round) (n : ℕ) where
           ([], sym (all-known (eqb-false drawn 0 h) (eqb-true (length front) (length (states x.mesh x.plan)) k)) ∙ told ∙ sym (append-nil text))
       go false false h k e =
           let told : text_of_steps x (take n rounds) front ≡ text = cc e in
-          (flat_map (step_text x rounds) behind ++ end_line, whole-parts ∙ ap (λ t. t ++ (flat_map (step_text x rounds) behind ++ end_line)) (sym (some-known (eqb-false drawn 0 h)) ∙ told))
+          (flat_map (step_text x rounds) later ++ end_line, whole-parts ∙ ap (λ t. t ++ (flat_map (step_text x rounds) later ++ end_line)) (sym (some-known (eqb-false drawn 0 h)) ∙ told))

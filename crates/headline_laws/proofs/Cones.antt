@@ -14,7 +14,7 @@ use Rattle.mesh_laws.proofs.Firsts.{shows-true, shows-own, same_point-sym, same_
 use Rattle.mesh_defs.specs.Sights.{points_differ}
 use Rattle.text_defs.specs.Text.{Rank, number_of}
 use Rattle.rank_defs.specs.Ranks.{IsAssignment, assigned, held_cells, held, owner, owned}
-use Rattle.rank_defs.specs.Home.{number}
+use Rattle.rank_defs.specs.Home.{point_number}
 use Rattle.rank_laws.specs.Conditions.{in_some, IsFlatOrSolid, IsSoundMesh}
 use Rattle.rank_laws.proofs.Lists.{any_filter}
 use Rattle.rank_laws.proofs.Strata.{found-any, strata-differ}
@@ -72,15 +72,15 @@ module _ (m : Mesh) (a : List ℕ) (p : Point) (there : list_any (shows p) (stra
       (λ h. ap (λ k. list_any (shows p) (owned m a k)) (eqb-true r (owner m a p) h) ∙ owner-shows)
 
   -- the number by which ranks name it
-  number-is : (n layers : ℕ) (bases : List ℕ) → IsAssignment m n a → number_of (ranks_with m n a layers bases) p ≡ number m a bases p
-  unfolding ranks_with number
+  number-is : (n layers : ℕ) (bases : List ℕ) → IsAssignment m n a → number_of (ranks_with m n a layers bases) p ≡ point_number m a bases p
+  unfolding ranks_with point_number
   number-is n layers bases parts =
       number-among (λ r. record { cells = assigned m a r; held = held m a r layers; owned = owned m a r; base = get_or bases r 0 }) p (owner m a p) (below n)
       (all_from (λ r. list_any (shows p) (owned m a r) ≡ (r == owner m a p)) shown-by (below n)) (below-has (owner m a p) n (owner-below m n a parts p inside))
 
 -- ---- points of the chart
 
-pub chart-number : (m : Mesh) (n : ℕ) (a : List ℕ) (layers : ℕ) (bases : List ℕ) (p : Point) → IsAssignment m n a → list_any (shows p) (chart m (placed_cells m)) ≡ true → number_of (ranks_with m n a layers bases) p ≡ number m a bases p
+pub chart-number : (m : Mesh) (n : ℕ) (a : List ℕ) (layers : ℕ) (bases : List ℕ) (p : Point) → IsAssignment m n a → list_any (shows p) (chart m (placed_cells m)) ≡ true → number_of (ranks_with m n a layers bases) p ≡ point_number m a bases p
 unfolding chart
 chart-number m n a layers bases p parts h =
     let both : list_any (λ s. in_some (point_of s) (placed_cells m) && shows p s) (strata m) ≡ true = sym (any_filter (shows p) (λ s. in_some (point_of s) (placed_cells m)) (strata m)) ∙ h in
@@ -99,16 +99,16 @@ contained P [] x h (k, low, at) = absurd (omega arith)
 contained P (y ∷ ys) x h (zero, low, at) = subst P at h.0
 contained P (y ∷ ys) x h (suc k, low, at) = contained P ys x h.1 (k, omega arith, at)
 
-pub cone-numbers : (m : Mesh) (n : ℕ) (a : List ℕ) (layers : ℕ) (bases : List ℕ) (s : Sight) → IsSoundMesh m → IsAccepted m → IsAssignment m n a → Contains (strata m) s → cone m (number_of (ranks_with m n a layers bases)) s ≡ cone m (number m a bases) s
+pub cone-numbers : (m : Mesh) (n : ℕ) (a : List ℕ) (layers : ℕ) (bases : List ℕ) (s : Sight) → IsSoundMesh m → IsAccepted m → IsAssignment m n a → Contains (strata m) s → cone m (number_of (ranks_with m n a layers bases)) s ≡ cone m (point_number m a bases) s
 unfolding cone entry
 cone-numbers m n a layers bases s sound accepted parts there =
-    map_same (entry m (number_of (ranks_with m n a layers bases)) s.arrangement) (entry m (number m a bases) s.arrangement) (facets_of s.poly)
-    (all_weaker (λ (f : Facet). IsSeen m f.poly (picked s.arrangement f.corners)) (λ (f : Facet). entry m (number_of (ranks_with m n a layers bases)) s.arrangement f ≡ entry m (number m a bases) s.arrangement f)
+    map_same (entry m (number_of (ranks_with m n a layers bases)) s.arrangement) (entry m (point_number m a bases) s.arrangement) (facets_of s.poly)
+    (all_weaker (λ (f : Facet). IsSeen m f.poly (picked s.arrangement f.corners)) (λ (f : Facet). entry m (number_of (ranks_with m n a layers bases)) s.arrangement f ≡ entry m (point_number m a bases) s.arrangement f)
     (λ f seen.
     let q : Point = point_on f.poly (picked s.arrangement f.corners) in
     let shown = found-any (shows q) (strata m) seen.point seen.found in
     let same = chart-number m n a layers bases q parts (ap (list_any (shows q)) (chart-all m sound.used) ∙ shown) in
-    (λ i. record { point = same i; o = (entry m (number m a bases) s.arrangement f).o }))
+    (λ i. record { point = same i; o = (entry m (point_number m a bases) s.arrangement f).o }))
     (facets_of s.poly) (contained (Covers m sound accepted) (strata m) s (strata-cover m sound accepted) there))
 
 -- ---- printed numbers
@@ -148,12 +148,12 @@ numbered-places base (s ∷ ss) h =
     here = let first : place_in (s ∷ ss) (point_of s) ≡ 0 = ap (λ b. cond (not b) (1 + place_in ss (point_of s)) 0) (shows-own s) in omega (arith, first)
 
     later : (x : ℕ × Sight) → x.0 ≡ base + 1 + place_in ss (point_of x.1) → shows (point_of s) x.1 ≡ false → x.0 ≡ base + place_in (s ∷ ss) (point_of x.1)
-    later x at e = let behind : place_in (s ∷ ss) (point_of x.1) ≡ 1 + place_in ss (point_of x.1) = ap (λ b. cond (not b) (1 + place_in ss (point_of x.1)) 0) (same_point-sym (point_of x.1) (point_of s) ∙ e) in omega (arith, at, behind)
+    later x at e = let beyond : place_in (s ∷ ss) (point_of x.1) ≡ 1 + place_in ss (point_of x.1) = ap (λ b. cond (not b) (1 + place_in ss (point_of x.1)) 0) (same_point-sym (point_of x.1) (point_of s) ∙ e) in omega (arith, at, beyond)
 
 module _ (m : Mesh) (n : ℕ) (a : List ℕ) (layers : ℕ) (bases : List ℕ) (dim : IsFlatOrSolid m) where
   -- x has the number of its point
   IsNumbered : ℕ × Sight → Type 0
-  IsNumbered x = x.0 ≡ number m a bases (point_of x.1)
+  IsNumbered x = x.0 ≡ point_number m a bases (point_of x.1)
 
   owned-differ : (r : ℕ) → points_differ (owned m a r) ≡ true
   unfolding owned held chart
@@ -165,12 +165,12 @@ module _ (m : Mesh) (n : ℕ) (a : List ℕ) (layers : ℕ) (bases : List ℕ) (
 
   -- the points that a rank owns have its own numbers
   rank-numbered : (r : ℕ) → AllByRecursion IsNumbered (enumerate_from (get_or bases r 0) (owned m a r))
-  unfolding IsNumbered number
+  unfolding IsNumbered point_number
   rank-numbered r = all_both (λ (x : ℕ × Sight). x.0 ≡ get_or bases r 0 + place_in (owned m a r) (point_of x.1)) (λ (x : ℕ × Sight). (owner m a (point_of x.1) == r) ≡ true) IsNumbered
       (λ x at own. at ∙ ap (λ k. get_or bases k 0 + place_in (owned m a k) (point_of x.1)) (sym (eqb-true (owner m a (point_of x.1)) r own)))
       (enumerate_from (get_or bases r 0) (owned m a r)) (numbered-places (get_or bases r 0) (owned m a r) (owned-differ r)) (all_enumerated (λ s. (owner m a (point_of s) == r) ≡ true) (get_or bases r 0) (owned m a r) (owned-mine r))
 
-  pub printed-numbers : (x : ℕ × Sight) → Contains (numbered (ranks_with m n a layers bases)) x → x.0 ≡ number m a bases (point_of x.1)
+  pub printed-numbers : (x : ℕ × Sight) → Contains (numbered (ranks_with m n a layers bases)) x → x.0 ≡ point_number m a bases (point_of x.1)
   unfolding ranks_with IsNumbered
   printed-numbers x = contained IsNumbered (numbered (ranks_with m n a layers bases)) x
       (all_flat_map IsNumbered (λ (r : Rank). enumerate_from r.base r.owned) (ranks_with m n a layers bases)

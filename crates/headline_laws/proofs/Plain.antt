@@ -11,7 +11,7 @@ use Rattle.mesh_defs.specs.Points.{Point, Sight, point_of, same_point, contains}
 use Rattle.mesh_defs.specs.Diagram.{chart, cone}
 use Rattle.mesh_laws.proofs.Places.{all_from, all_map, all_weaker, filter_whole, flat_map_same}
 use Rattle.mesh_laws.proofs.Containing.{below-all}
-use Rattle.text_defs.specs.Text.{alone, number_of, tag, line, mesh_line, ranks_line, tail_text, point_line, head_text, rank_text, total_text, point_text, points_text, step_line, step_text as plain_step, end_line, plain_text}
+use Rattle.text_defs.specs.Text.{alone, number_of, tag, line, mesh_line, ranks_line, tail_text, point_line, head_text, rank_text, total_text, point_text, points_text, step_line, plain_step_text as plain_step, end_line, plain_text}
 use Rattle.sf_defs.specs.declared.Op.TheVariants.{Sum}
 use Rattle.sf_defs.specs.declared.Ask.{Ask}
 use Rattle.sf_defs.specs.Asks.{Replays}

@@ -11,7 +11,7 @@ ghost use Rattle.mesh_defs.specs.Diagram.{strata, chart, cone, IsAccepted};
 ghost use Rattle.text_defs.specs.Text.{number_of, plain_text};
 ghost use Rattle.sf_defs.specs.Rounds.{Round};
 ghost use Rattle.rank_defs.specs.Ranks.{IsAssignment};
-ghost use Rattle.rank_defs.specs.Home.{IsNumberRound, bases_of, number};
+ghost use Rattle.rank_defs.specs.Home.{IsNumberRound, bases_of, point_number};
 ghost use Rattle.rank_laws.specs.Conditions.{IsFlatOrSolid, IsSoundMesh, in_some};
 ghost use Rattle.input_defs.specs.Plans.{plain_plan};
 ghost use Rattle.headline_defs.specs.States.{State};
@@ -51,8 +51,8 @@ pub fn plain_plan_prints_the_plain_text()
 /// in an accepted mesh of sound cells. In a mesh of dimension 2 or 3 each printed point stands under
 /// this number.
 pub fn cones_name_printed_numbers()
-    ensures points { (m : Mesh) (n : ℕ) (ranks : List ℕ) (layers : ℕ) (bases : List ℕ) (p : Point) → IsAssignment m n ranks → list_any (shows p) (chart m (placed_cells m)) ≡ true → number_of (ranks_with m n ranks layers bases) p ≡ number m ranks bases p }
-    ensures sound { (m : Mesh) (n : ℕ) (ranks : List ℕ) (layers : ℕ) (bases : List ℕ) (p : Point) → IsSoundMesh m → IsAssignment m n ranks → in_some p (placed_cells m) ≡ true → number_of (ranks_with m n ranks layers bases) p ≡ number m ranks bases p }
-    ensures cones { (m : Mesh) (n : ℕ) (ranks : List ℕ) (layers : ℕ) (bases : List ℕ) (s : Sight) → IsSoundMesh m → IsAccepted m → IsAssignment m n ranks → Contains (strata m) s → cone m (number_of (ranks_with m n ranks layers bases)) s ≡ cone m (number m ranks bases) s }
-    ensures printed { (m : Mesh) (n : ℕ) (ranks : List ℕ) (layers : ℕ) (bases : List ℕ) (x : ℕ × Sight) → IsFlatOrSolid m → Contains (numbered (ranks_with m n ranks layers bases)) x → x.0 ≡ number m ranks bases (point_of x.1) }
+    ensures points { (m : Mesh) (n : ℕ) (ranks : List ℕ) (layers : ℕ) (bases : List ℕ) (p : Point) → IsAssignment m n ranks → list_any (shows p) (chart m (placed_cells m)) ≡ true → number_of (ranks_with m n ranks layers bases) p ≡ point_number m ranks bases p }
+    ensures sound { (m : Mesh) (n : ℕ) (ranks : List ℕ) (layers : ℕ) (bases : List ℕ) (p : Point) → IsSoundMesh m → IsAssignment m n ranks → in_some p (placed_cells m) ≡ true → number_of (ranks_with m n ranks layers bases) p ≡ point_number m ranks bases p }
+    ensures cones { (m : Mesh) (n : ℕ) (ranks : List ℕ) (layers : ℕ) (bases : List ℕ) (s : Sight) → IsSoundMesh m → IsAccepted m → IsAssignment m n ranks → Contains (strata m) s → cone m (number_of (ranks_with m n ranks layers bases)) s ≡ cone m (point_number m ranks bases) s }
+    ensures printed { (m : Mesh) (n : ℕ) (ranks : List ℕ) (layers : ℕ) (bases : List ℕ) (x : ℕ × Sight) → IsFlatOrSolid m → Contains (numbered (ranks_with m n ranks layers bases)) x → x.0 ≡ point_number m ranks bases (point_of x.1) }
 {}

@@ -17,9 +17,9 @@ use Rattle.input_defs.specs.declared.MshFault.{MshFault}
 use Rattle.input_defs.specs.declared.MeshFault.{MeshFault}
 use Rattle.input_defs.specs.declared.MeshFault.TheVariants.{NoCells, CellTwist}
 use Rattle.input_defs.specs.Bodies.{lexeme_of}
-use Rattle.input_defs.specs.Sections.{format, name, names, node, nodes_behind, nodes, element, elements}
+use Rattle.input_defs.specs.Sections.{format, name, names, node, nodes_after, nodes, element, elements}
 use Rattle.input_defs.specs.DataSections.{row, section, section_of}
-use Rattle.input_defs.specs.Files.{blocks_of, misplaced, unfinished, with_section, step, said, content}
+use Rattle.input_defs.specs.Files.{blocks_of, misplaced, unfinished, with_section, with_block, said, content}
 use Rattle.input_defs.specs.Meshes.{kept, greatest_dim, vertex_nodes, cell_elements, cells_of, marks_of, loose_elements, section_on, mesh_of, twist, accepted}
 
 -- the mesh of a right file, or why it has none
@@ -55,11 +55,11 @@ merged_elements : mesh (with_elements (codes "2\n1 2 2 5 1 1 2 3\n2 2 2 6 1 2 3 
   loose = 0;
   merged = 1;
 }))
-unfolding line_number lines_from lines_of is_indent name_of tokens_on items_on items_of ahead quoted_on uint_of int_of decimal_of scaled fixed_value fixed_of lexeme_of format name names node nodes_behind nodes element elements row section section_of blocks_of misplaced unfinished with_section step said content sorted rotations reflections orientations corners_under act relative sights_of contains kept greatest_dim vertex_nodes cell_elements cells_of marks_of loose_elements section_on row_values mesh_of twist accepted
+unfolding line_number lines_from lines_of is_indent name_of tokens_on items_on items_of ahead quoted_on uint_of int_of decimal_of scaled fixed_value fixed_of lexeme_of format name names node nodes_after nodes element elements row section section_of blocks_of misplaced unfinished with_section with_block said content sorted rotations reflections orientations corners_under act relative sights_of contains kept greatest_dim vertex_nodes cell_elements cells_of marks_of loose_elements section_on row_values mesh_of twist accepted
 merged_elements = refl
 
 -- A tetrahedron with a labelled edge and corner. An edge and a point on other nodes and a quadrilateral on the same nodes
--- are loose, each once: an equal one behind it is merged.
+-- are loose, each once: an equal one after it is merged.
 loose_elements_of_tetrahedron : mesh (with_elements (codes "9\n1 1 1 7 1 9\n2 1 1 7 1 4\n3 4 1 -8 9 1 2 3\n4 3 1 4 1 2 3 9\n5 15 1 2 3\n6 15 1 2 4\n7 1 1 6 4 1\n8 2 1 0 1 2 3\n9 1 1 5 9 1\n$EndElements\n")) ≡ Some (Ok (record {
   dim = 3;
   at = (pos 0 ∷ pos 0 ∷ pos 0 ∷ []) ∷ (pos 10000000000 ∷ pos 0 ∷ pos 0 ∷ []) ∷ (pos 0 ∷ pos 10000000000 ∷ pos 0 ∷ []) ∷ (pos 0 ∷ pos 0 ∷ pos 10000000000 ∷ []) ∷ [];
@@ -71,7 +71,7 @@ loose_elements_of_tetrahedron : mesh (with_elements (codes "9\n1 1 1 7 1 9\n2 1 
   loose = 3;
   merged = 2;
 }))
-unfolding line_number lines_from lines_of is_indent name_of tokens_on items_on items_of ahead quoted_on uint_of int_of decimal_of scaled fixed_value fixed_of lexeme_of format name names node nodes_behind nodes element elements row section section_of blocks_of misplaced unfinished with_section step said content sorted rotations reflections orientations corners_under act relative sights_of contains kept greatest_dim vertex_nodes cell_elements cells_of marks_of loose_elements section_on row_values mesh_of twist accepted
+unfolding line_number lines_from lines_of is_indent name_of tokens_on items_on items_of ahead quoted_on uint_of int_of decimal_of scaled fixed_value fixed_of lexeme_of format name names node nodes_after nodes element elements row section section_of blocks_of misplaced unfinished with_section with_block said content sorted rotations reflections orientations corners_under act relative sights_of contains kept greatest_dim vertex_nodes cell_elements cells_of marks_of loose_elements section_on row_values mesh_of twist accepted
 loose_elements_of_tetrahedron = refl
 
 -- Rows of data: of an unused node and of an element on no cell are dropped; a merged element names the cell; an element
@@ -81,13 +81,13 @@ data_rows : map rows_and_first
     ≡ (record { number = 0; values = pos 10000000000 ∷ [] } ∷ record { number = 0; values = pos 30000000000 ∷ [] } ∷ record { number = 0; values = pos 40000000000 ∷ [] } ∷ record { number = 0; values = pos 50000000000 ∷ [] } ∷ [], Some (pos 50000000000 ∷ []))
     ∷ (record { number = 3; values = pos 20000000000 ∷ [] } ∷ record { number = 0; values = pos 30000000000 ∷ [] } ∷ [], Some (pos 30000000000 ∷ []))
     ∷ []
-unfolding line_number lines_from lines_of is_indent name_of tokens_on items_on items_of ahead quoted_on uint_of int_of decimal_of scaled fixed_value fixed_of lexeme_of format name names node nodes_behind nodes element elements row section section_of blocks_of misplaced unfinished with_section step said content sorted rotations reflections orientations corners_under act relative sights_of contains kept greatest_dim vertex_nodes cell_elements cells_of marks_of loose_elements section_on row_values mesh_of twist accepted
+unfolding line_number lines_from lines_of is_indent name_of tokens_on items_on items_of ahead quoted_on uint_of int_of decimal_of scaled fixed_value fixed_of lexeme_of format name names node nodes_after nodes element elements row section section_of blocks_of misplaced unfinished with_section with_block said content sorted rotations reflections orientations corners_under act relative sights_of contains kept greatest_dim vertex_nodes cell_elements cells_of marks_of loose_elements section_on row_values mesh_of twist accepted
 data_rows = refl
 
 -- the data of a quadrangle on the nodes of a tetrahedron are the tetrahedron's
 data_of_a_quadrangle : map (λ (s : Section). s.rows) (fields_where (mesh (with_elements (codes "2\n1 3 0 1 2 3 9\n2 4 0 1 2 3 9\n$EndElements\n$ElementData\n0 0 3\n0 1 1\n1 1\n$EndElementData\n"))))
     ≡ (record { number = 0; values = pos 10000000000 ∷ [] } ∷ []) ∷ []
-unfolding line_number lines_from lines_of is_indent name_of tokens_on items_on items_of ahead quoted_on uint_of int_of decimal_of scaled fixed_value fixed_of lexeme_of format name names node nodes_behind nodes element elements row section section_of blocks_of misplaced unfinished with_section step said content sorted rotations reflections orientations corners_under act relative sights_of contains kept greatest_dim vertex_nodes cell_elements cells_of marks_of loose_elements section_on row_values mesh_of twist accepted
+unfolding line_number lines_from lines_of is_indent name_of tokens_on items_on items_of ahead quoted_on uint_of int_of decimal_of scaled fixed_value fixed_of lexeme_of format name names node nodes_after nodes element elements row section section_of blocks_of misplaced unfinished with_section with_block said content sorted rotations reflections orientations corners_under act relative sights_of contains kept greatest_dim vertex_nodes cell_elements cells_of marks_of loose_elements section_on row_values mesh_of twist accepted
 data_of_a_quadrangle = refl
 
 -- ---- contents without a mesh
@@ -95,5 +95,5 @@ data_of_a_quadrangle = refl
 refused_contents : map (λ lines. mesh (with_elements lines))
     (codes "1\n1 1 2 0 1 1 2\n$EndElements\n" ∷ codes "0\n$EndElements\n" ∷ codes "1\n1 15 0 4\n$EndElements\n" ∷ codes "4\n5 2 0 1 2 3\n8 3 0 1 2 3 4\n7 3 0 4 3 2 1\n6 3 0 1 3 2 4\n$EndElements\n" ∷ [])
     ≡ Some (Err (NoCells 1)) ∷ Some (Err (NoCells 0)) ∷ Some (Err (NoCells 0)) ∷ Some (Err (CellTwist 6 8)) ∷ []
-unfolding line_number lines_from lines_of is_indent name_of tokens_on items_on items_of ahead quoted_on uint_of int_of decimal_of scaled fixed_value fixed_of lexeme_of format name names node nodes_behind nodes element elements row section section_of blocks_of misplaced unfinished with_section step said content sorted rotations reflections orientations corners_under act relative sights_of contains kept greatest_dim vertex_nodes cell_elements cells_of marks_of loose_elements section_on row_values mesh_of twist accepted
+unfolding line_number lines_from lines_of is_indent name_of tokens_on items_on items_of ahead quoted_on uint_of int_of decimal_of scaled fixed_value fixed_of lexeme_of format name names node nodes_after nodes element elements row section section_of blocks_of misplaced unfinished with_section with_block said content sorted rotations reflections orientations corners_under act relative sights_of contains kept greatest_dim vertex_nodes cell_elements cells_of marks_of loose_elements section_on row_values mesh_of twist accepted
 refused_contents = refl

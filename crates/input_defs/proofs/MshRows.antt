@@ -10,9 +10,9 @@ use Rattle.scan_defs.specs.Numbers.{uint_of, int_of, decimal_of, scaled, fixed_v
 use Rattle.input_defs.specs.declared.MshFault.{MshFault}
 use Rattle.input_defs.specs.declared.MshFault.TheVariants.{NotMsh, Version, Binary, BadNumber, BadCount, Unclosed, MissingSection, RepeatedNodeNumber, ElementType, UnknownNode, RepeatedNode, OutOfRange}
 use Rattle.input_defs.specs.Bodies.{lexeme_of}
-use Rattle.input_defs.specs.Sections.{format, name, names, node, nodes_behind, nodes, element, elements}
+use Rattle.input_defs.specs.Sections.{format, name, names, node, nodes_after, nodes, element, elements}
 use Rattle.input_defs.specs.DataSections.{row, section, section_of}
-use Rattle.input_defs.specs.Files.{blocks_of, misplaced, unfinished, with_section, step, said, content}
+use Rattle.input_defs.specs.Files.{blocks_of, misplaced, unfinished, with_section, with_block, said, content}
 
 abbrev pub fault : List ℕ → Option MshFault
 fault bytes = result_err (content bytes)
@@ -48,19 +48,19 @@ one_triangle_content : content one_triangle ≡ Ok (record {
   names = [];
   fields = [];
 })
-unfolding line_number lines_from lines_of is_indent name_of tokens_on items_on items_of ahead quoted_on uint_of int_of decimal_of scaled fixed_value fixed_of lexeme_of format name names node nodes_behind nodes element elements row section section_of blocks_of misplaced unfinished with_section step said content
+unfolding line_number lines_from lines_of is_indent name_of tokens_on items_on items_of ahead quoted_on uint_of int_of decimal_of scaled fixed_value fixed_of lexeme_of format name names node nodes_after nodes element elements row section section_of blocks_of misplaced unfinished with_section with_block said content
 one_triangle_content = refl
 
 -- ---- the file of one triangle with one change each
 
 refused_versions : map (λ line. fault (with_version line)) (codes "2.2 1 8" ∷ codes "4.1 0 8" ∷ []) ≡ Some (Binary 2) ∷ Some (Version 2) ∷ []
-unfolding line_number lines_from lines_of is_indent name_of tokens_on items_on items_of ahead quoted_on uint_of int_of decimal_of scaled fixed_value fixed_of lexeme_of format name names node nodes_behind nodes element elements row section section_of blocks_of misplaced unfinished with_section step said content
+unfolding line_number lines_from lines_of is_indent name_of tokens_on items_on items_of ahead quoted_on uint_of int_of decimal_of scaled fixed_value fixed_of lexeme_of format name names node nodes_after nodes element elements row section section_of blocks_of misplaced unfinished with_section with_block said content
 refused_versions = refl
 
 refused_nodes : map (λ lines. fault (with_nodes lines))
     (codes "2 900000001 0 0\n3 0 1 0\n" ∷ codes "2 x 0 0\n3 0 1 0\n" ∷ codes "2 1 0 0\n2 0 1 0\n" ∷ [])
     ≡ Some (OutOfRange 7) ∷ Some (BadNumber 7) ∷ Some (RepeatedNodeNumber 8 2) ∷ []
-unfolding line_number lines_from lines_of is_indent name_of tokens_on items_on items_of ahead quoted_on uint_of int_of decimal_of scaled fixed_value fixed_of lexeme_of format name names node nodes_behind nodes element elements row section section_of blocks_of misplaced unfinished with_section step said content
+unfolding line_number lines_from lines_of is_indent name_of tokens_on items_on items_of ahead quoted_on uint_of int_of decimal_of scaled fixed_value fixed_of lexeme_of format name names node nodes_after nodes element elements row section section_of blocks_of misplaced unfinished with_section with_block said content
 refused_nodes = refl
 
 refused_elements : map (λ lines. fault (with_elements lines))
@@ -71,10 +71,10 @@ refused_elements : map (λ lines. fault (with_elements lines))
     ∷ codes "2\n1 2 2 0 1 1 2 3\n$EndElements\n"
     ∷ [])
     ≡ Some (ElementType 12 8) ∷ Some (UnknownNode 12 4) ∷ Some (RepeatedNode 12 2) ∷ Some (Unclosed 13) ∷ Some (BadCount 13) ∷ []
-unfolding line_number lines_from lines_of is_indent name_of tokens_on items_on items_of ahead quoted_on uint_of int_of decimal_of scaled fixed_value fixed_of lexeme_of format name names node nodes_behind nodes element elements row section section_of blocks_of misplaced unfinished with_section step said content
+unfolding line_number lines_from lines_of is_indent name_of tokens_on items_on items_of ahead quoted_on uint_of int_of decimal_of scaled fixed_value fixed_of lexeme_of format name names node nodes_after nodes element elements row section section_of blocks_of misplaced unfinished with_section with_block said content
 refused_elements = refl
 
 -- without its elements, without its nodes, empty
 refused_without : map fault ((format_lines ++ node_lines) ∷ (format_lines ++ element_lines) ∷ [] ∷ []) ≡ Some (MissingSection 10 false) ∷ Some (MissingSection 4 true) ∷ Some (NotMsh 1) ∷ []
-unfolding line_number lines_from lines_of is_indent name_of tokens_on items_on items_of ahead quoted_on uint_of int_of decimal_of scaled fixed_value fixed_of lexeme_of format name names node nodes_behind nodes element elements row section section_of blocks_of misplaced unfinished with_section step said content
+unfolding line_number lines_from lines_of is_indent name_of tokens_on items_on items_of ahead quoted_on uint_of int_of decimal_of scaled fixed_value fixed_of lexeme_of format name names node nodes_after nodes element elements row section section_of blocks_of misplaced unfinished with_section with_block said content
 refused_without = refl

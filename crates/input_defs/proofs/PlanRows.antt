@@ -45,14 +45,14 @@ refused_plans : map fault
 unfolding lines_of tokens_of form_of with_form plan_from plan_of rank_by misfits misfit
 refused_plans = refl
 
--- the end of a plan without LF behind it is on its last line
+-- the end of a plan without LF after it is on its last line
 no_part_in_one_line : fault (codes "ranks 1") ≡ Some (NoPart 1)
 unfolding lines_of tokens_of form_of with_form plan_from plan_of rank_by misfits misfit
 no_part_in_one_line = refl
 
 -- ---- right plans
 
--- comments, blank lines, blanks, CR LF and leading zeros; overlap adds up behind each part and falls back to 0
+-- comments, blank lines, blanks, CR LF and leading zeros; overlap adds up after each part and falls back to 0
 whole_plan : plan_of (codes "  # a plan\n\nranks 02\t\r\n dofs u_1 1 0 0 16\npart 1 0 1\nshow local\n#overlap 9\noverlap 3\noverlap 1\nshow windows\npart stripe\noverlap 0\nshow local\npart block\n") ≡ Ok (record {
   ranks = 2;
   moves = (5, Part (Listed (1 ∷ 0 ∷ 1 ∷ []))) ∷ (8, Layers 3) ∷ (9, Layers 1) ∷ (11, Part Stripe) ∷ (12, Layers 0) ∷ (14, Part Block) ∷ [];

@@ -8,9 +8,9 @@ use Rattle.scan_defs.specs.Quotes.{quoted_on}
 use Rattle.scan_defs.specs.Numbers.{uint_of, int_of, decimal_of, scaled, fixed_value, fixed_of}
 use Rattle.plex_defs.specs.Fields.{row_values}
 use Rattle.input_defs.specs.Bodies.{lexeme_of}
-use Rattle.input_defs.specs.Sections.{format, name, names, node, nodes_behind, nodes, element, elements}
+use Rattle.input_defs.specs.Sections.{format, name, names, node, nodes_after, nodes, element, elements}
 use Rattle.input_defs.specs.DataSections.{row, section, section_of}
-use Rattle.input_defs.specs.Files.{blocks_of, misplaced, unfinished, with_section, step, said, content}
+use Rattle.input_defs.specs.Files.{blocks_of, misplaced, unfinished, with_section, with_block, said, content}
 use Rattle.plain_lists.specs.Lists.{sorted}
 use Rattle.mesh_defs.specs.Orientation.{rotations, reflections, orientations, corners_under, act, relative}
 use Rattle.mesh_defs.specs.Points.{sights_of, contains}
@@ -52,7 +52,7 @@ plate_content = record {
 }
 
 plate_read : content plate ≡ Ok plate_content
-unfolding line_number lines_from lines_of is_indent name_of tokens_on items_on items_of ahead quoted_on uint_of int_of decimal_of scaled fixed_value fixed_of lexeme_of format name names node nodes_behind nodes element elements row section section_of blocks_of misplaced unfinished with_section step said content
+unfolding line_number lines_from lines_of is_indent name_of tokens_on items_on items_of ahead quoted_on uint_of int_of decimal_of scaled fixed_value fixed_of lexeme_of format name names node nodes_after nodes element elements row section section_of blocks_of misplaced unfinished with_section with_block said content
 plate_read = refl
 
 -- the mesh: every line labels an edge and every triangle its cell; one node is unused

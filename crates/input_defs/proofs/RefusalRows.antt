@@ -8,9 +8,9 @@ use Rattle.scan_defs.specs.Quotes.{quoted_on}
 use Rattle.scan_defs.specs.Numbers.{uint_of, int_of, decimal_of, scaled, fixed_value, fixed_of}
 use Rattle.plex_defs.specs.Fields.{row_values}
 use Rattle.input_defs.specs.Bodies.{lexeme_of}
-use Rattle.input_defs.specs.Sections.{format, name, names, node, nodes_behind, nodes, element, elements}
+use Rattle.input_defs.specs.Sections.{format, name, names, node, nodes_after, nodes, element, elements}
 use Rattle.input_defs.specs.DataSections.{row, section, section_of}
-use Rattle.input_defs.specs.Files.{blocks_of, misplaced, unfinished, with_section, step, said, content}
+use Rattle.input_defs.specs.Files.{blocks_of, misplaced, unfinished, with_section, with_block, said, content}
 use Rattle.plain_lists.specs.Lists.{sorted, same_list}
 use Rattle.mesh_defs.specs.Orientation.{rotations, reflections, orientations, corners_under, act, relative}
 use Rattle.mesh_defs.specs.Points.{sights_of, first_sight, arrangement, contains}
@@ -57,7 +57,7 @@ refused_meshes : map of_mesh
     ∷ refused status.Mesh (codes "mesh line 13 unclosed")
     ∷ refused status.Mesh (codes "mesh line 13 bad count")
     ∷ []
-unfolding line_number lines_from lines_of is_indent name_of tokens_on items_on items_of ahead quoted_on uint_of int_of decimal_of scaled fixed_value fixed_of lexeme_of format name names node nodes_behind nodes element elements row section section_of blocks_of misplaced unfinished with_section step said content sorted rotations reflections orientations corners_under act relative sights_of first_sight arrangement contains seen_under twist_key kept greatest_dim vertex_nodes cell_elements cells_of marks_of loose_elements section_on row_values mesh_of twist accepted tokens_of form_of with_form plan_from plan_of rank_by misfits misfit made_of with_word request_from request grid_points grid_cells corners_at cells_at made digits words_refused read_refused too_long_refused msh_text mesh_text plan_text twist_refused fitting_task task
+unfolding line_number lines_from lines_of is_indent name_of tokens_on items_on items_of ahead quoted_on uint_of int_of decimal_of scaled fixed_value fixed_of lexeme_of format name names node nodes_after nodes element elements row section section_of blocks_of misplaced unfinished with_section with_block said content sorted rotations reflections orientations corners_under act relative sights_of first_sight arrangement contains seen_under twist_key kept greatest_dim vertex_nodes cell_elements cells_of marks_of loose_elements section_on row_values mesh_of twist accepted tokens_of form_of with_form plan_from plan_of rank_by misfits misfit made_of with_word request_from request grid_points grid_cells corners_at cells_at made digits words_refused read_refused too_long_refused msh_text mesh_text plan_text twist_refused fitting_task task
 refused_meshes = refl
 
 more_refused_meshes : map of_mesh
@@ -73,7 +73,7 @@ more_refused_meshes : map of_mesh
     ∷ refused status.Mesh (codes "mesh line 7 bad number")
     ∷ refused status.Mesh (codes "mesh line 8 repeated node number 2")
     ∷ []
-unfolding line_number lines_from lines_of is_indent name_of tokens_on items_on items_of ahead quoted_on uint_of int_of decimal_of scaled fixed_value fixed_of lexeme_of format name names node nodes_behind nodes element elements row section section_of blocks_of misplaced unfinished with_section step said content sorted rotations reflections orientations corners_under act relative sights_of first_sight arrangement contains seen_under twist_key kept greatest_dim vertex_nodes cell_elements cells_of marks_of loose_elements section_on row_values mesh_of twist accepted tokens_of form_of with_form plan_from plan_of rank_by misfits misfit made_of with_word request_from request grid_points grid_cells corners_at cells_at made digits words_refused read_refused too_long_refused msh_text mesh_text plan_text twist_refused fitting_task task
+unfolding line_number lines_from lines_of is_indent name_of tokens_on items_on items_of ahead quoted_on uint_of int_of decimal_of scaled fixed_value fixed_of lexeme_of format name names node nodes_after nodes element elements row section section_of blocks_of misplaced unfinished with_section with_block said content sorted rotations reflections orientations corners_under act relative sights_of first_sight arrangement contains seen_under twist_key kept greatest_dim vertex_nodes cell_elements cells_of marks_of loose_elements section_on row_values mesh_of twist accepted tokens_of form_of with_form plan_from plan_of rank_by misfits misfit made_of with_word request_from request grid_points grid_cells corners_at cells_at made digits words_refused read_refused too_long_refused msh_text mesh_text plan_text twist_refused fitting_task task
 more_refused_meshes = refl
 
 refused_short_meshes : map of_mesh
@@ -87,7 +87,7 @@ refused_short_meshes : map of_mesh
     ∷ refused status.Mesh (codes "mesh no cells 1")
     ∷ refused status.Mesh (codes "mesh line 1 not msh")
     ∷ []
-unfolding line_number lines_from lines_of is_indent name_of tokens_on items_on items_of ahead quoted_on uint_of int_of decimal_of scaled fixed_value fixed_of lexeme_of format name names node nodes_behind nodes element elements row section section_of blocks_of misplaced unfinished with_section step said content sorted rotations reflections orientations corners_under act relative sights_of first_sight arrangement contains seen_under twist_key kept greatest_dim vertex_nodes cell_elements cells_of marks_of loose_elements section_on row_values mesh_of twist accepted tokens_of form_of with_form plan_from plan_of rank_by misfits misfit made_of with_word request_from request grid_points grid_cells corners_at cells_at made digits words_refused read_refused too_long_refused msh_text mesh_text plan_text twist_refused fitting_task task
+unfolding line_number lines_from lines_of is_indent name_of tokens_on items_on items_of ahead quoted_on uint_of int_of decimal_of scaled fixed_value fixed_of lexeme_of format name names node nodes_after nodes element elements row section section_of blocks_of misplaced unfinished with_section with_block said content sorted rotations reflections orientations corners_under act relative sights_of first_sight arrangement contains seen_under twist_key kept greatest_dim vertex_nodes cell_elements cells_of marks_of loose_elements section_on row_values mesh_of twist accepted tokens_of form_of with_form plan_from plan_of rank_by misfits misfit made_of with_word request_from request grid_points grid_cells corners_at cells_at made digits words_refused read_refused too_long_refused msh_text mesh_text plan_text twist_refused fitting_task task
 refused_short_meshes = refl
 
 -- the second of two hexahedra sees their common face twisted
@@ -95,7 +95,7 @@ abbrev twisted : List ℕ
 twisted = codes "$MeshFormat\n2.2 0 8\n$EndMeshFormat\n$Nodes\n12\n1 0 0 0\n2 1 0 0\n3 1 1 0\n4 0 1 0\n5 0 0 1\n6 1 0 1\n7 1 1 1\n8 0 1 1\n9 0 0 2\n10 1 0 2\n11 1 1 2\n12 0 1 2\n$EndNodes\n$Elements\n2\n1 5 2 0 1 1 2 3 4 5 6 7 8\n2 5 2 0 1 5 7 6 8 9 10 11 12\n$EndElements\n"
 
 refused_twist : of_mesh twisted ≡ refused status.Mesh (codes "twist cell 1 face 0")
-unfolding line_number lines_from lines_of is_indent name_of tokens_on items_on items_of ahead quoted_on uint_of int_of decimal_of scaled fixed_value fixed_of lexeme_of format name names node nodes_behind nodes element elements row section section_of blocks_of misplaced unfinished with_section step said content sorted rotations reflections orientations corners_under act relative sights_of first_sight arrangement contains seen_under twist_key kept greatest_dim vertex_nodes cell_elements cells_of marks_of loose_elements section_on row_values mesh_of twist accepted tokens_of form_of with_form plan_from plan_of rank_by misfits misfit made_of with_word request_from request grid_points grid_cells corners_at cells_at made digits words_refused read_refused too_long_refused msh_text mesh_text plan_text twist_refused fitting_task task
+unfolding line_number lines_from lines_of is_indent name_of tokens_on items_on items_of ahead quoted_on uint_of int_of decimal_of scaled fixed_value fixed_of lexeme_of format name names node nodes_after nodes element elements row section section_of blocks_of misplaced unfinished with_section with_block said content sorted rotations reflections orientations corners_under act relative sights_of first_sight arrangement contains seen_under twist_key kept greatest_dim vertex_nodes cell_elements cells_of marks_of loose_elements section_on row_values mesh_of twist accepted tokens_of form_of with_form plan_from plan_of rank_by misfits misfit made_of with_word request_from request grid_points grid_cells corners_at cells_at made digits words_refused read_refused too_long_refused msh_text mesh_text plan_text twist_refused fitting_task task
 refused_twist = refl
 
 -- ---- plans, with a mesh of two cells
@@ -123,11 +123,11 @@ refused_plans : map of_plan
     ∷ refused status.Plan (codes "plan line 2 no part")
     ∷ refused status.Plan (codes "plan line 2 word")
     ∷ []
-unfolding line_number lines_from lines_of is_indent name_of tokens_on items_on items_of ahead quoted_on uint_of int_of decimal_of scaled fixed_value fixed_of lexeme_of format name names node nodes_behind nodes element elements row section section_of blocks_of misplaced unfinished with_section step said content sorted rotations reflections orientations corners_under act relative sights_of first_sight arrangement contains seen_under twist_key kept greatest_dim vertex_nodes cell_elements cells_of marks_of loose_elements section_on row_values mesh_of twist accepted tokens_of form_of with_form plan_from plan_of rank_by misfits misfit made_of with_word request_from request grid_points grid_cells corners_at cells_at made digits words_refused read_refused too_long_refused msh_text mesh_text plan_text twist_refused fitting_task task
+unfolding line_number lines_from lines_of is_indent name_of tokens_on items_on items_of ahead quoted_on uint_of int_of decimal_of scaled fixed_value fixed_of lexeme_of format name names node nodes_after nodes element elements row section section_of blocks_of misplaced unfinished with_section with_block said content sorted rotations reflections orientations corners_under act relative sights_of first_sight arrangement contains seen_under twist_key kept greatest_dim vertex_nodes cell_elements cells_of marks_of loose_elements section_on row_values mesh_of twist accepted tokens_of form_of with_form plan_from plan_of rank_by misfits misfit made_of with_word request_from request grid_points grid_cells corners_at cells_at made digits words_refused read_refused too_long_refused msh_text mesh_text plan_text twist_refused fitting_task task
 refused_plans = refl
 
 accepted_plan : of_plan (codes "ranks 2\npart 0 1\noverlap 1\n") ≡ None
-unfolding line_number lines_from lines_of is_indent name_of tokens_on items_on items_of ahead quoted_on uint_of int_of decimal_of scaled fixed_value fixed_of lexeme_of format name names node nodes_behind nodes element elements row section section_of blocks_of misplaced unfinished with_section step said content sorted rotations reflections orientations corners_under act relative sights_of first_sight arrangement contains seen_under twist_key kept greatest_dim vertex_nodes cell_elements cells_of marks_of loose_elements section_on row_values mesh_of twist accepted tokens_of form_of with_form plan_from plan_of rank_by misfits misfit made_of with_word request_from request grid_points grid_cells corners_at cells_at made digits words_refused read_refused too_long_refused msh_text mesh_text plan_text twist_refused fitting_task task
+unfolding line_number lines_from lines_of is_indent name_of tokens_on items_on items_of ahead quoted_on uint_of int_of decimal_of scaled fixed_value fixed_of lexeme_of format name names node nodes_after nodes element elements row section section_of blocks_of misplaced unfinished with_section with_block said content sorted rotations reflections orientations corners_under act relative sights_of first_sight arrangement contains seen_under twist_key kept greatest_dim vertex_nodes cell_elements cells_of marks_of loose_elements section_on row_values mesh_of twist accepted tokens_of form_of with_form plan_from plan_of rank_by misfits misfit made_of with_word request_from request grid_points grid_cells corners_at cells_at made digits words_refused read_refused too_long_refused msh_text mesh_text plan_text twist_refused fitting_task task
 accepted_plan = refl
 
 -- ---- words
@@ -138,7 +138,7 @@ of_words words = refusal words (files ((codes "T1", []) ∷ []))
 refused_words : map of_words
     ([] ∷ (codes "--make" ∷ codes "hex:63" ∷ []) ∷ (codes "--plan" ∷ codes "p" ∷ codes "--plan" ∷ codes "q" ∷ codes "T1" ∷ []) ∷ (codes "--make" ∷ codes "tri:1" ∷ codes "T1" ∷ []) ∷ (codes "--make" ∷ codes "tri:01" ∷ []) ∷ [])
     ≡ replicate 5 (refused status.Words (codes "words"))
-unfolding line_number lines_from lines_of is_indent name_of tokens_on items_on items_of ahead quoted_on uint_of int_of decimal_of scaled fixed_value fixed_of lexeme_of format name names node nodes_behind nodes element elements row section section_of blocks_of misplaced unfinished with_section step said content sorted rotations reflections orientations corners_under act relative sights_of first_sight arrangement contains seen_under twist_key kept greatest_dim vertex_nodes cell_elements cells_of marks_of loose_elements section_on row_values mesh_of twist accepted tokens_of form_of with_form plan_from plan_of rank_by misfits misfit made_of with_word request_from request grid_points grid_cells corners_at cells_at made digits words_refused read_refused too_long_refused msh_text mesh_text plan_text twist_refused fitting_task task
+unfolding line_number lines_from lines_of is_indent name_of tokens_on items_on items_of ahead quoted_on uint_of int_of decimal_of scaled fixed_value fixed_of lexeme_of format name names node nodes_after nodes element elements row section section_of blocks_of misplaced unfinished with_section with_block said content sorted rotations reflections orientations corners_under act relative sights_of first_sight arrangement contains seen_under twist_key kept greatest_dim vertex_nodes cell_elements cells_of marks_of loose_elements section_on row_values mesh_of twist accepted tokens_of form_of with_form plan_from plan_of rank_by misfits misfit made_of with_word request_from request grid_points grid_cells corners_at cells_at made digits words_refused read_refused too_long_refused msh_text mesh_text plan_text twist_refused fitting_task task
 refused_words = refl
 
 -- ---- the order of causes
@@ -160,7 +160,7 @@ order_of_causes : (first_of (codes "--plan" ∷ codes "p" ∷ []) [] ≡ refused
     × (first_of with_plan ((codes "p", codes "ranks 2\npart 5\n") ∷ (codes "m", twisted) ∷ []) ≡ refused status.Plan (codes "plan line 2 part length 1 want 2"))
     × (first_of (codes "--make" ∷ codes "tri:1" ∷ codes "--plan" ∷ codes "p" ∷ []) ((codes "p", codes "ranks 2\npart 0 2\n") ∷ []) ≡ refused status.Plan (codes "plan line 2 part rank 2"))
     × (first_of (codes "--make=tri:1" ∷ []) [] ≡ None)
-unfolding line_number lines_from lines_of is_indent name_of tokens_on items_on items_of ahead quoted_on uint_of int_of decimal_of scaled fixed_value fixed_of lexeme_of format name names node nodes_behind nodes element elements row section section_of blocks_of misplaced unfinished with_section step said content sorted rotations reflections orientations corners_under act relative sights_of first_sight arrangement contains seen_under twist_key kept greatest_dim vertex_nodes cell_elements cells_of marks_of loose_elements section_on row_values mesh_of twist accepted tokens_of form_of with_form plan_from plan_of rank_by misfits misfit made_of with_word request_from request grid_points grid_cells corners_at cells_at made digits words_refused read_refused too_long_refused msh_text mesh_text plan_text twist_refused fitting_task task
+unfolding line_number lines_from lines_of is_indent name_of tokens_on items_on items_of ahead quoted_on uint_of int_of decimal_of scaled fixed_value fixed_of lexeme_of format name names node nodes_after nodes element elements row section section_of blocks_of misplaced unfinished with_section with_block said content sorted rotations reflections orientations corners_under act relative sights_of first_sight arrangement contains seen_under twist_key kept greatest_dim vertex_nodes cell_elements cells_of marks_of loose_elements section_on row_values mesh_of twist accepted tokens_of form_of with_form plan_from plan_of rank_by misfits misfit made_of with_word request_from request grid_points grid_cells corners_at cells_at made digits words_refused read_refused too_long_refused msh_text mesh_text plan_text twist_refused fitting_task task
 order_of_causes = (refl, refl, refl, refl, refl, refl, refl, refl, refl)
 
 -- ---- a file that is too long

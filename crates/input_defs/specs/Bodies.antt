@@ -74,14 +74,14 @@ int = number int_of
 abbrev pub fixed : {E : Type 0} → Reader E ℤ
 fixed = number fixed_of
 
--- the tokens behind those of a line
-abbrev pub behind : ℕ → List Lexeme → List Lexeme
-behind line [] = []
-behind line (token ∷ rest) = if token.line == line then behind line rest else token ∷ rest
+-- the tokens after those of a line
+abbrev pub after_line : ℕ → List Lexeme → List Lexeme
+after_line line [] = []
+after_line line (token ∷ rest) = if token.line == line then after_line line rest else token ∷ rest
 
 abbrev pub text_where : {E : Type 0} → Faults E → ℕ → List Lexeme → Option (List ℕ) → Result (List ℕ × List Lexeme) E
 text_where faults line rest None = Err (faults.name line)
-text_where faults line rest (Some text) = Ok (text, behind line rest)
+text_where faults line rest (Some text) = Ok (text, after_line line rest)
 
 -- a quoted text
 abbrev pub quoted : {E : Type 0} → Reader E (List ℕ)
@@ -95,6 +95,6 @@ nothing_left extra (Err e) = Err e
 nothing_left extra (Ok (x, [])) = Ok x
 nothing_left extra (Ok (x, token ∷ rest)) = Err (extra token.line)
 
--- a body has to end behind the last token that is read; `extra` is the fault of a further one
+-- a body has to end after the last token that is read; `extra` is the fault of a further one
 abbrev pub whole : {E A : Type 0} → (ℕ → E) → Reader E A → Faults E → List Lexeme → Result A E
 whole extra r faults body = nothing_left extra (r faults body)

@@ -9,15 +9,15 @@ use Rattle.input_defs.specs.declared.DataFault.{DataFault}
 use Rattle.input_defs.specs.declared.DataFault.TheVariants.{BadNumber, BadCount, BadName, Components, UnknownNumber, OutOfRange, Ended}
 use Rattle.input_defs.specs.Causes.{ok_where}
 use Rattle.input_defs.specs.Bodies.{Lexeme, Faults, Reader, give, ◌>>=◌, many, number, tested, uint, int, fixed, quoted, whole}
-use Rattle.input_defs.specs.Sections.{has}
+use Rattle.input_defs.specs.Sections.{has_number}
 
-abbrev pub number_fault : NumberFault → ℕ → DataFault
-number_fault numbers.NotNumber line = BadNumber line
-number_fault numbers.OutOfRange line = OutOfRange line
+abbrev pub data_number_fault : NumberFault → ℕ → DataFault
+data_number_fault numbers.NotNumber line = BadNumber line
+data_number_fault numbers.OutOfRange line = OutOfRange line
 
 -- the faults of every body, where this line ends it
 abbrev pub faults_at : ℕ → Faults DataFault
-faults_at end = record { number = number_fault; name = BadName; ended = Ended end }
+faults_at end = record { number = data_number_fault; name = BadName; ended = Ended end }
 
 -- a real tag has the shape of a fixed-point number, and any value
 abbrev pub real : Reader DataFault Decimal
@@ -35,7 +35,7 @@ rows_on line (negsuc n) = Err (BadCount line)
 -- the values of a node or element of one of these numbers
 unfoldable pub row : List ℕ → ℕ → Reader DataFault Row
 row known comps = do
-  number ← tested uint_of (λ line n. ok_where (has known n) n (UnknownNumber line n))
+  number ← tested uint_of (λ line n. ok_where (has_number known n) n (UnknownNumber line n))
   values ← many comps fixed
   give (record { number = number; values = values })
 

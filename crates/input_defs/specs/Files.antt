@@ -95,67 +95,67 @@ of_data ended (Err (data_fault.Ended line)) = Err ended
 of_data ended (Err data_fault.NoMemory) = Err NoMemory
 
 -- the numbers of the nodes, and of the elements
-abbrev pub numbers_on : Parts → Place → List ℕ
-numbers_on parts place.Node = map (λ (node : Node). node.number) (unwrap_or parts.nodes [])
-numbers_on parts place.Element = map (λ (element : Element). element.number) (unwrap_or parts.elements [])
+abbrev pub file_numbers : Parts → Place → List ℕ
+file_numbers parts place.Node = map (λ (node : Node). node.number) (unwrap_or parts.nodes [])
+file_numbers parts place.Element = map (λ (element : Element). element.number) (unwrap_or parts.elements [])
 
 -- the parts with this section, whose body is these tokens and ends on this line
 unfoldable pub with_section : ℕ → MshFault → Parts → Known → List Lexeme → Result Parts MshFault
 with_section end ended parts Format body = map_ok (λ size. record parts { format = true }) (whole BadCount format (faults_of ended) body)
 with_section end ended parts Names body = map_ok (λ names. record parts { names = Some names }) (whole BadCount names (faults_of ended) body)
 with_section end ended parts Nodes body = map_ok (λ nodes. record parts { nodes = Some nodes }) (whole BadCount nodes (faults_of ended) body)
-with_section end ended parts Elements body = map_ok (λ elements. record parts { elements = Some elements }) (whole BadCount (elements (numbers_on parts place.Node)) (faults_of ended) body)
-with_section end ended parts (Data on) body = map_ok (λ field. record parts { fields = parts.fields ++ field ∷ [] }) (of_data ended (section_of on (numbers_on parts on) end body))
+with_section end ended parts Elements body = map_ok (λ elements. record parts { elements = Some elements }) (whole BadCount (elements (file_numbers parts place.Node)) (faults_of ended) body)
+with_section end ended parts (Data on) body = map_ok (λ field. record parts { fields = parts.fields ++ field ∷ [] }) (of_data ended (section_of on (file_numbers parts on) end body))
 
 -- ---- the file
 
 -- the line that ends a body before these blocks
-abbrev pub ending : ℕ → List Block → ℕ
-ending end [] = end
-ending end (next ∷ blocks) = next.line
+abbrev pub ending_line : ℕ → List Block → ℕ
+ending_line end [] = end
+ending_line end (next ∷ blocks) = next.line
 
 -- the fault of a body that ends too early there: a wrong count where the closing line is the right one
 abbrev pub cut_short : ℕ → List ℕ → List Block → MshFault
 cut_short end name [] = Unclosed end
 cut_short end name (next ∷ blocks) = if closes name next then BadCount next.line else Unclosed next.line
 
--- What the next header line has to be: one that begins a section; the closing line of the section before it; or, behind an
+-- What the next header line has to be: one that begins a section; the closing line of the section before it; or, after an
 -- unknown section, anything up to its closing line.
-pub data Due : Type 0 where
-  Opening : Due
-  Closing : List ℕ → Due
-  Skipping : List ℕ → Due
+pub data Expected : Type 0 where
+  Opening : Expected
+  Closing : List ℕ → Expected
+  Skipping : List ℕ → Expected
 
 abbrev pub is_wrong_header : List ℕ → Bool
 is_wrong_header name = same_list name [] || same_list (take 3 name) (codes "End")
 
--- what is due behind a header line that begins a section, and what was read with that section
-abbrev pub begun : ℕ → Parts → Block → List Block → Option Known → Result (Due × Parts) MshFault
+-- what is expected after a header line that begins a section, and what was read with that section
+abbrev pub begun : ℕ → Parts → Block → List Block → Option Known → Result (Expected × Parts) MshFault
 begun end parts block blocks (Some k) = do
   before ← unless (misplaced parts block.line k) parts
-  with ← with_section (ending end blocks) (cut_short end block.name blocks) before k block.body
+  with ← with_section (ending_line end blocks) (cut_short end block.name blocks) before k block.body
   Ok (Closing block.name, with)
 begun end parts block blocks None = if is_wrong_header block.name then Err (WrongHeader block.line) else Ok (Skipping block.name, parts)
 
--- one header line with its body, and the blocks behind it
-unfoldable pub step : ℕ → Due → Parts → Block → List Block → Result (Due × Parts) MshFault
-step end Opening parts block blocks = begun end parts block blocks (known block.name)
-step end (Closing name) parts block blocks = if closes name block then Ok (Opening, parts) else Err (Unclosed block.line)
-step end (Skipping name) parts block blocks = Ok (if closes name block then Opening else Skipping name, parts)
+-- one header line with its body, and the blocks after it
+unfoldable pub with_block : ℕ → Expected → Parts → Block → List Block → Result (Expected × Parts) MshFault
+with_block end Opening parts block blocks = begun end parts block blocks (known block.name)
+with_block end (Closing name) parts block blocks = if closes name block then Ok (Opening, parts) else Err (Unclosed block.line)
+with_block end (Skipping name) parts block blocks = Ok (if closes name block then Opening else Skipping name, parts)
 
 abbrev pub content_of : Parts → Content
 content_of parts = record { nodes = unwrap_or parts.nodes []; elements = unwrap_or parts.elements []; names = unwrap_or parts.names []; fields = parts.fields }
 
 -- where the file ends on this line
-abbrev pub finished : ℕ → Due → Parts → Result Content MshFault
+abbrev pub finished : ℕ → Expected → Parts → Result Content MshFault
 finished end Opening parts = unless (unfinished parts end) (content_of parts)
 finished end (Closing name) parts = Err (Unclosed end)
 finished end (Skipping name) parts = Err (Unclosed end)
 
--- what blocks say behind what was read
-unfoldable pub said : ℕ → Due → Parts → List Block → Result Content MshFault
-said end due parts [] = finished end due parts
-said end due parts (block ∷ blocks) = step end due parts block blocks >>= (λ next. said end next.0 next.1 blocks)
+-- what blocks say after what was read
+unfoldable pub said : ℕ → Expected → Parts → List Block → Result Content MshFault
+said end expected parts [] = finished end expected parts
+said end expected parts (block ∷ blocks) = with_block end expected parts block blocks >>= (λ next. said end next.0 next.1 blocks)
 
 -- the content of a mesh file, or its first fault
 unfoldable pub content : List ℕ → Result Content MshFault

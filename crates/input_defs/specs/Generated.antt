@@ -19,29 +19,29 @@ abbrev pub layers : Kind → ℕ → ℕ
 layers kind n = if dim_of (poly_of kind) == 3 then n else 1
 
 -- a point of the grid, or the square or cube at it
-pub record Spot : Type 0 where
+pub record GridPoint : Type 0 where
   pub x : ℕ
   pub y : ℕ
   pub z : ℕ
 
 -- the spots of a grid, x fastest, then y, then z
-abbrev pub spots : ℕ → ℕ → ℕ → List Spot
-spots nx ny nz = flat_map (λ z. flat_map (λ y. map (λ x. record { x = x; y = y; z = z }) (below nx)) (below ny)) (below nz)
+abbrev pub grid : ℕ → ℕ → ℕ → List GridPoint
+grid nx ny nz = flat_map (λ z. flat_map (λ y. map (λ x. record { x = x; y = y; z = z }) (below nx)) (below ny)) (below nz)
 
 -- the grid points of n squares or cubes each way, with whole coordinates
-unfoldable pub grid_points : Kind → ℕ → List Spot
-grid_points kind n = spots (n + 1) (n + 1) (layers kind (n + 1))
+unfoldable pub grid_points : Kind → ℕ → List GridPoint
+grid_points kind n = grid (n + 1) (n + 1) (layers kind (n + 1))
 
 -- the squares or cubes
-unfoldable pub grid_cells : Kind → ℕ → List Spot
-grid_cells kind n = spots n n (layers kind n)
+unfoldable pub grid_cells : Kind → ℕ → List GridPoint
+grid_cells kind n = grid n n (layers kind n)
 
 -- the position of the grid point this far from a spot
-abbrev pub vertex_at : ℕ → Spot → ℕ → ℕ → ℕ → ℕ
+abbrev pub vertex_at : ℕ → GridPoint → ℕ → ℕ → ℕ → ℕ
 vertex_at n p dx dy dz = (p.x + dx) + (n + 1) * ((p.y + dy) + (n + 1) * (p.z + dz))
 
 -- the corners of a cube in the order of the hexahedron's; the first four are those of a square
-unfoldable pub corners_at : ℕ → Spot → List ℕ
+unfoldable pub corners_at : ℕ → GridPoint → List ℕ
 corners_at n p = vertex_at n p 0 0 0 ∷ vertex_at n p 1 0 0 ∷ vertex_at n p 1 1 0 ∷ vertex_at n p 0 1 0
     ∷ vertex_at n p 0 0 1 ∷ vertex_at n p 1 0 1 ∷ vertex_at n p 1 1 1 ∷ vertex_at n p 0 1 1 ∷ []
 
@@ -52,14 +52,14 @@ cuts Quad = (0 ∷ 1 ∷ 2 ∷ 3 ∷ []) ∷ []
 cuts Tet = (0 ∷ 1 ∷ 2 ∷ 6 ∷ []) ∷ (0 ∷ 1 ∷ 5 ∷ 6 ∷ []) ∷ (0 ∷ 3 ∷ 2 ∷ 6 ∷ []) ∷ (0 ∷ 3 ∷ 7 ∷ 6 ∷ []) ∷ (0 ∷ 4 ∷ 5 ∷ 6 ∷ []) ∷ (0 ∷ 4 ∷ 7 ∷ 6 ∷ []) ∷ []
 cuts Hex = (0 ∷ 1 ∷ 2 ∷ 3 ∷ 4 ∷ 5 ∷ 6 ∷ 7 ∷ []) ∷ []
 
-unfoldable pub cells_at : Kind → ℕ → Spot → List Cell
+unfoldable pub cells_at : Kind → ℕ → GridPoint → List Cell
 cells_at kind n p = map (λ cut. record { poly = poly_of kind; vertices = picked (corners_at n p) cut }) (cuts kind)
 
 -- the generated mesh of a kind with n squares or cubes each way; it has no marks, names or data
 unfoldable pub made : Kind → ℕ → Mesh
 made kind n = record {
   dim = dim_of (poly_of kind);
-  at = map (λ (p : Spot). map (λ c. pos (c * 10 ^ 10)) (p.x ∷ p.y ∷ p.z ∷ [])) (grid_points kind n);
+  at = map (λ (p : GridPoint). map (λ c. pos (c * 10 ^ 10)) (p.x ∷ p.y ∷ p.z ∷ [])) (grid_points kind n);
   cells = flat_map (cells_at kind n) (grid_cells kind n);
   marks = [];
   names = [];

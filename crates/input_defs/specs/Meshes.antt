@@ -14,7 +14,7 @@ use Rattle.input_defs.specs.Content.{Node, Element, Content}
 use Rattle.input_defs.specs.declared.MeshFault.{MeshFault}
 use Rattle.input_defs.specs.declared.MeshFault.TheVariants.{NoCells, TooManyCells, CellTwist}
 use Rattle.input_defs.specs.Causes.{unless}
-use Rattle.input_defs.specs.Sections.{poly_of_type, has}
+use Rattle.input_defs.specs.Sections.{poly_of_type, has_number}
 
 -- ---- elements
 
@@ -33,12 +33,12 @@ abbrev pub same_place : Element → Element → Bool
 same_place a b = (dim a == dim b) && same_nodes a b
 
 -- the elements that are not merged: neither these earlier ones nor an earlier one of the list have their place
-abbrev pub kept_behind : List Element → List Element → List Element
-kept_behind earlier [] = []
-kept_behind earlier (e ∷ es) = if list_any (same_place e) earlier then kept_behind earlier es else e ∷ kept_behind (e ∷ earlier) es
+abbrev pub kept_after : List Element → List Element → List Element
+kept_after earlier [] = []
+kept_after earlier (e ∷ es) = if list_any (same_place e) earlier then kept_after earlier es else e ∷ kept_after (e ∷ earlier) es
 
 unfoldable pub kept : Content → List Element
-kept content = kept_behind [] content.elements
+kept content = kept_after [] content.elements
 
 -- the greatest dimension of an element, or 0: the dimension of the mesh
 unfoldable pub greatest_dim : Content → ℕ
@@ -51,7 +51,7 @@ is_top content element = dim element == greatest_dim content
 
 -- the vertices: the nodes that some element of the mesh's dimension has, in file order
 unfoldable pub vertex_nodes : Content → List Node
-vertex_nodes content = filter (λ (node : Node). list_any (λ e. is_top content e && has e.nodes node.number) content.elements) content.nodes
+vertex_nodes content = filter (λ (node : Node). list_any (λ e. is_top content e && has_number e.nodes node.number) content.elements) content.nodes
 
 -- the position of a node among the vertices, past the last one for another node
 abbrev pub vertex_of : List Node → ℕ → ℕ
@@ -73,8 +73,8 @@ cells_of content = map (cell_of (vertex_nodes content)) (cell_elements content)
 abbrev pub point_of_element : List Node → Element → Point
 point_of_element vertices element = point_on (poly element) (map (vertex_of vertices) element.nodes)
 
-abbrev pub is_point : List Cell → Point → Bool
-is_point cells p = list_any (λ cell. contains cell p) cells
+abbrev pub is_point_of : List Cell → Point → Bool
+is_point_of cells p = list_any (λ cell. contains cell p) cells
 
 -- the label value of an element, merged or not, whose physical tag is not 0, on its point
 abbrev pub is_labelled : Element → Bool
@@ -84,11 +84,11 @@ abbrev pub mark_of : List Node → Element → Mark
 mark_of vertices element = record { dim = dim element; vertices = map (vertex_of vertices) element.nodes; value = element.physical }
 
 unfoldable pub marks_of : Content → List Mark
-marks_of content = map (mark_of (vertex_nodes content)) (filter (λ e. is_labelled e && is_point (cells_of content) (point_of_element (vertex_nodes content) e)) content.elements)
+marks_of content = map (mark_of (vertex_nodes content)) (filter (λ e. is_labelled e && is_point_of (cells_of content) (point_of_element (vertex_nodes content) e)) content.elements)
 
 -- the elements that are not merged and are on no point
 unfoldable pub loose_elements : Content → List Element
-loose_elements content = filter (λ e. not (is_point (cells_of content) (point_of_element (vertex_nodes content) e))) (kept content)
+loose_elements content = filter (λ e. not (is_point_of (cells_of content) (point_of_element (vertex_nodes content) e))) (kept content)
 
 -- ---- data
 

@@ -97,15 +97,15 @@ pub record Before : Type 0 where
   pub dofs : List DofsLine
   pub shows : Show
 
-abbrev pub at_first : Before
-at_first = record { ranks = None; moves = []; dofs = []; shows = showing false false false false false }
+abbrev pub before_any_line : Before
+before_any_line = record { ranks = None; moves = []; dofs = []; shows = showing false false false false false }
 
 abbrev pub is_letter : ℕ → Bool
 is_letter b = (nat_le 65 b && nat_le b 90) || (nat_le 97 b && nat_le b 122) || is_digit b || (b == 95)
 
 -- 1 to 32 letters, digits or `_`
-abbrev pub is_name : List ℕ → Bool
-is_name name = nat_le 1 (length name) && nat_le (length name) 32 && list_all is_letter name
+abbrev pub is_field_name : List ℕ → Bool
+is_field_name name = nat_le 1 (length name) && nat_le (length name) 32 && list_all is_letter name
 
 abbrev pub both : Show → Show → Show
 both a b = showing (a.points || b.points) (a.local || b.local) (a.closure || b.closure) (a.trace || b.trace) (a.windows || b.windows)
@@ -122,7 +122,7 @@ abbrev pub is_part : Move → Bool
 is_part (Part spread) = true
 is_part (Layers k) = false
 
--- layers stand behind some part
+-- layers stand after some part
 abbrev pub has_part : Before → Bool
 has_part b = list_any (λ (m : ℕ × Move). is_part m.1) b.moves
 
@@ -139,7 +139,7 @@ with_form b line (Some (IsMove (Layers k))) = unless
     (first_cause ((not (has_part b), NoPart line) ∷ (nat_le 32 (length b.moves), Steps line)
     ∷ (nat_lt 4 (layers_with (layers_of b.moves) (Layers k)), Overlap line (layers_with (layers_of b.moves) (Layers k))) ∷ []))
     (with_move b line (Layers k))
-with_form b line (Some (IsDofs d)) = unless (first_cause ((not (is_name d.name) || list_any (λ (e : DofsLine). same_list e.name d.name) b.dofs || list_any (λ n. nat_lt 16 n) d.dofs || nat_le 8 (length b.dofs), Dofs line) ∷ [])) (record b { dofs = b.dofs ++ d ∷ [] })
+with_form b line (Some (IsDofs d)) = unless (first_cause ((not (is_field_name d.name) || list_any (λ (e : DofsLine). same_list e.name d.name) b.dofs || list_any (λ n. nat_lt 16 n) d.dofs || nat_le 8 (length b.dofs), Dofs line) ∷ [])) (record b { dofs = b.dofs ++ d ∷ [] })
 with_form b line (Some (IsShow s)) = Ok (record b { shows = both b.shows s })
 
 -- a line without words, and one whose first word begins with `#`, say nothing
@@ -154,14 +154,14 @@ abbrev pub plan_with : Before → ℕ → Option ℕ → Result Plan PlanFault
 plan_with b line None = Err (NoPart line)
 plan_with b line (Some n) = unless (first_cause ((not (has_part b), NoPart line) ∷ [])) (record { ranks = n; moves = b.moves; dofs = b.dofs; shows = b.shows })
 
--- the lines from this number on, behind what was read
+-- the lines from this number on, after what was read
 unfoldable pub plan_from : Before → ℕ → ℕ → List (List ℕ) → Result Plan PlanFault
 plan_from b end line [] = plan_with b end b.ranks
 plan_from b end line (text ∷ texts) = with_line b line (tokens_of text) >>= (λ next. plan_from next end (line + 1) texts)
 
--- the plan that bytes say, or its first fault; its end is on the line behind the last LF
+-- the plan that bytes say, or its first fault; its end is on the line after the last LF
 unfoldable pub plan_of : List ℕ → Result Plan PlanFault
-plan_of bytes = plan_from at_first (length (lines_of bytes)) 1 (lines_of bytes)
+plan_of bytes = plan_from before_any_line (length (lines_of bytes)) 1 (lines_of bytes)
 
 -- without a plan file: `ranks 1`, `part block`, `show points`
 abbrev pub plain_plan : Plan

@@ -37,7 +37,7 @@ what_text what.Elements = codes "too many elements"
 what_text what.Names = codes "too many names"
 what_text what.Fields = codes "too many fields"
 
--- what stands behind `refused: mesh`
+-- what stands after `refused: mesh`
 unfoldable pub msh_text : MshFault → List ℕ
 msh_text (msh.NotMsh l) = on_line l (codes "not msh")
 msh_text (msh.Version l) = on_line l (codes "version")
@@ -65,7 +65,7 @@ mesh_text mesh.TooManyCells = codes "too many cells"
 mesh_text (mesh.CellTwist element earlier) = one_number (one_number (codes "cell twist") element) earlier
 mesh_text mesh.NoMemory = []
 
--- what stands behind `refused: plan`
+-- what stands after `refused: plan`
 unfoldable pub plan_text : PlanFault → List ℕ
 plan_text (plan.Word l) = on_line l (codes "word")
 plan_text (plan.Ranks l n) = on_line l (one_number (codes "ranks") n)

@@ -16,16 +16,16 @@ use Rattle.input_defs.specs.declared.MshFault.TheVariants.{Version, Binary, BadN
 use Rattle.input_defs.specs.Causes.{ok_where}
 use Rattle.input_defs.specs.Bodies.{Faults, Reader, give, ◌>>=◌, many, tested, uint, int, fixed, quoted}
 
-abbrev pub number_fault : NumberFault → ℕ → MshFault
-number_fault numbers.NotNumber line = BadNumber line
-number_fault numbers.OutOfRange line = OutOfRange line
+abbrev pub section_number_fault : NumberFault → ℕ → MshFault
+section_number_fault numbers.NotNumber line = BadNumber line
+section_number_fault numbers.OutOfRange line = OutOfRange line
 
 -- the faults of every body, where this is the one that it ends too early
 abbrev pub faults_of : MshFault → Faults MshFault
-faults_of ended = record { number = number_fault; name = BadName; ended = ended }
+faults_of ended = record { number = section_number_fault; name = BadName; ended = ended }
 
-abbrev pub has : List ℕ → ℕ → Bool
-has numbers n = list_any (λ m. m == n) numbers
+abbrev pub has_number : List ℕ → ℕ → Bool
+has_number numbers n = list_any (λ m. m == n) numbers
 
 -- how many there are, up to a limit
 abbrev pub count : ℕ → What → Reader MshFault ℕ
@@ -61,7 +61,7 @@ names = do
 
 -- the number of a node, which is not 0 and none of the earlier ones
 abbrev pub fresh_number : List ℕ → Reader MshFault ℕ
-fresh_number earlier = tested uint_of (λ line n. if n == 0 then Err (OutOfRange line) else ok_where (not (has earlier n)) n (RepeatedNodeNumber line n))
+fresh_number earlier = tested uint_of (λ line n. if n == 0 then Err (OutOfRange line) else ok_where (not (has_number earlier n)) n (RepeatedNodeNumber line n))
 
 unfoldable pub node : List ℕ → Reader MshFault Node
 node earlier = do
@@ -71,18 +71,18 @@ node earlier = do
   z ← fixed
   give (record { number = number; at = x ∷ y ∷ z ∷ [] })
 
--- n nodes behind those of the earlier numbers
-unfoldable pub nodes_behind : List ℕ → ℕ → Reader MshFault (List Node)
-nodes_behind earlier zero = give []
-nodes_behind earlier (suc n) = do
+-- n nodes after those of the earlier numbers
+unfoldable pub nodes_after : List ℕ → ℕ → Reader MshFault (List Node)
+nodes_after earlier zero = give []
+nodes_after earlier (suc n) = do
   first ← node earlier
-  others ← nodes_behind (first.number ∷ earlier) n
+  others ← nodes_after (first.number ∷ earlier) n
   give (first ∷ others)
 
 unfoldable pub nodes : Reader MshFault (List Node)
 nodes = do
   n ← count 500000 what.Nodes
-  nodes_behind [] n
+  nodes_after [] n
 
 -- ---- Elements: a number, a type, tags and the numbers of nodes each
 
@@ -98,13 +98,13 @@ corners_of_type kind = unwrap_or (option_map corner_count (poly_of_type kind)) 0
 
 -- the number of a node of the file, which the element does not have yet
 abbrev pub corner : List ℕ → List ℕ → Reader MshFault ℕ
-corner known earlier = tested uint_of (λ line n. if has known n then ok_where (not (has earlier n)) n (RepeatedNode line n) else Err (UnknownNode line n))
+corner known earlier = tested uint_of (λ line n. if has_number known n then ok_where (not (has_number earlier n)) n (RepeatedNode line n) else Err (UnknownNode line n))
 
-abbrev pub corners_behind : List ℕ → List ℕ → ℕ → Reader MshFault (List ℕ)
-corners_behind known earlier zero = give []
-corners_behind known earlier (suc n) = do
+abbrev pub corners_after : List ℕ → List ℕ → ℕ → Reader MshFault (List ℕ)
+corners_after known earlier zero = give []
+corners_after known earlier (suc n) = do
   first ← corner known earlier
-  others ← corners_behind known (first ∷ earlier) n
+  others ← corners_after known (first ∷ earlier) n
   give (first ∷ others)
 
 -- an element on nodes of these numbers; its physical tag is the first one, or 0
@@ -114,7 +114,7 @@ element known = do
   kind ← tested uint_of (λ line n. ok_where (is_some (poly_of_type n)) n (ElementType line n))
   tag_count ← uint
   tags ← many tag_count int
-  corners ← corners_behind known [] (corners_of_type kind)
+  corners ← corners_after known [] (corners_of_type kind)
   give (record { number = number; kind = kind; physical = get_or tags 0 (pos 0); nodes = corners })
 
 unfoldable pub elements : List ℕ → Reader MshFault (List Element)

@@ -42,14 +42,14 @@ abbrev pub kind_named : List ℕ → Option Kind
 kind_named word = option_map (λ (row : List ℕ × Kind). row.1) (find (λ row. same_list row.0 word) kinds)
 
 -- digits without a leading zero, from 1 to the greatest of the kind
-abbrev pub size_of : Kind → List ℕ → Option Source
-size_of kind digits =
+abbrev pub made_of_size : Kind → List ℕ → Option Source
+made_of_size kind digits =
     if nat_le 1 (length digits) && list_all is_digit digits && not (get_or digits 0 0 == 48) && nat_le (number_of_digits digits) (most kind)
     then Some (Made kind (number_of_digits digits))
     else None
 
 unfoldable pub made_of : List ℕ → Option Source
-made_of word = option_and_then (λ kind. size_of kind (after_first (λ b. b == 58) word)) (kind_named (before_first (λ b. b == 58) word))
+made_of word = option_and_then (λ kind. made_of_size kind (after_first (λ b. b == 58) word)) (kind_named (before_first (λ b. b == 58) word))
 
 -- ---- word by word, each thing at most once
 
@@ -69,11 +69,11 @@ abbrev pub with_flag : Asked → Flag → List ℕ → Option Asked
 with_flag asked Plan word = with_plan asked word
 with_flag asked Make word = with_source asked (made_of word)
 
--- no option waits behind it
+-- no option waits after it
 abbrev pub no_more : Option Asked → Option (Option Flag × Asked)
 no_more = option_map (λ asked. (None, asked))
 
--- a word that no option waits for: what was asked with it, and the option that waits behind it
+-- a word that no option waits for: what was asked with it, and the option that waits after it
 unfoldable pub with_word : Asked → List ℕ → Option (Option Flag × Asked)
 with_word asked word =
     if same_list word (codes "--plan") then Some (Some Plan, asked)

@@ -9,7 +9,7 @@ use Rattle.mesh_defs.specs.Mesh.{Mesh}
 use Rattle.input_defs.specs.Content.{Element, Content}
 use Rattle.input_defs.specs.declared.MeshFault.TheVariants.{NoCells, TooManyCells}
 use Rattle.input_defs.specs.Causes.{unless}
-use Rattle.input_defs.specs.Meshes.{dim, same_nodes, same_place, kept_behind, kept, is_top, greatest_dim, cell_elements, mesh_of, twist, accepted}
+use Rattle.input_defs.specs.Meshes.{dim, same_nodes, same_place, kept_after, kept, is_top, greatest_dim, cell_elements, mesh_of, twist, accepted}
 use Rattle.mesh_laws.proofs.Places.{all_both, all_filter, none_passes, all_weaker, any_same}
 use Rattle.input_laws.specs.Sublists.{IsSublist, differ_in_place}
 use Rattle.input_laws.proofs.Causes.{unless-ok}
@@ -38,17 +38,17 @@ same_place-sym e f h = sym (same_place-same e f e h) ∙ same_place-refl e
 -- ---- kept elements
 
 -- none of them is at the place of an earlier one
-pub kept-fresh : (earlier es : List Element) → AllByRecursion (λ e. list_any (same_place e) earlier ≡ false) (kept_behind earlier es)
+pub kept-fresh : (earlier es : List Element) → AllByRecursion (λ e. list_any (same_place e) earlier ≡ false) (kept_after earlier es)
 kept-fresh earlier [] = tt
 kept-fresh earlier (e ∷ es) = go (list_any (same_place e) earlier) refl (kept-fresh earlier es) (kept-fresh (e ∷ earlier) es)
   where
-    go : (b : Bool) → list_any (same_place e) earlier ≡ b → AllByRecursion (λ f. list_any (same_place f) earlier ≡ false) (kept_behind earlier es) → AllByRecursion (λ f. list_any (same_place f) (e ∷ earlier) ≡ false) (kept_behind (e ∷ earlier) es)
-        → AllByRecursion (λ f. list_any (same_place f) earlier ≡ false) (cond b (kept_behind earlier es) (e ∷ kept_behind (e ∷ earlier) es))
+    go : (b : Bool) → list_any (same_place e) earlier ≡ b → AllByRecursion (λ f. list_any (same_place f) earlier ≡ false) (kept_after earlier es) → AllByRecursion (λ f. list_any (same_place f) (e ∷ earlier) ≡ false) (kept_after (e ∷ earlier) es)
+        → AllByRecursion (λ f. list_any (same_place f) earlier ≡ false) (cond b (kept_after earlier es) (e ∷ kept_after (e ∷ earlier) es))
     go true h r s = r
-    go false h r s = (h, all_weaker (λ f. list_any (same_place f) (e ∷ earlier) ≡ false) (λ f. list_any (same_place f) earlier ≡ false) (λ f g. (or_parts (same_place f e) (list_any (same_place f) earlier) g).1) (kept_behind (e ∷ earlier) es) s)
+    go false h r s = (h, all_weaker (λ f. list_any (same_place f) (e ∷ earlier) ≡ false) (λ f. list_any (same_place f) earlier ≡ false) (λ f g. (or_parts (same_place f e) (list_any (same_place f) earlier) g).1) (kept_after (e ∷ earlier) es) s)
 
 -- each of them is the first one at its place
-pub kept-first : (earlier es : List Element) → AllByRecursion (λ e. find (same_place e) es ≡ Some e) (kept_behind earlier es)
+pub kept-first : (earlier es : List Element) → AllByRecursion (λ e. find (same_place e) es ≡ Some e) (kept_after earlier es)
 kept-first earlier [] = tt
 kept-first earlier (x ∷ xs) = go (list_any (same_place x) earlier) refl (kept-first earlier xs) (kept-fresh earlier xs) (kept-first (x ∷ earlier) xs) (kept-fresh (x ∷ earlier) xs)
   where
@@ -62,34 +62,34 @@ kept-first earlier (x ∷ xs) = go (list_any (same_place x) earlier) refl (kept-
     past : (e : Element) → same_place e x ≡ false → find (same_place e) xs ≡ Some e → find (same_place e) (x ∷ xs) ≡ Some e
     past e other h = cond-false (same_place e x) (Some x) (find (same_place e) xs) other ∙ h
 
-    go : (b : Bool) → list_any (same_place x) earlier ≡ b → AllByRecursion (λ e. find (same_place e) xs ≡ Some e) (kept_behind earlier xs) → AllByRecursion (λ e. list_any (same_place e) earlier ≡ false) (kept_behind earlier xs)
-        → AllByRecursion (λ e. find (same_place e) xs ≡ Some e) (kept_behind (x ∷ earlier) xs) → AllByRecursion (λ e. list_any (same_place e) (x ∷ earlier) ≡ false) (kept_behind (x ∷ earlier) xs)
-        → AllByRecursion (λ e. find (same_place e) (x ∷ xs) ≡ Some e) (cond b (kept_behind earlier xs) (x ∷ kept_behind (x ∷ earlier) xs))
-    go true h r f s g = all_both (λ e. find (same_place e) xs ≡ Some e) (λ e. list_any (same_place e) earlier ≡ false) (λ e. find (same_place e) (x ∷ xs) ≡ Some e) (λ e a fresh. past e (merged h e fresh) a) (kept_behind earlier xs) r f
+    go : (b : Bool) → list_any (same_place x) earlier ≡ b → AllByRecursion (λ e. find (same_place e) xs ≡ Some e) (kept_after earlier xs) → AllByRecursion (λ e. list_any (same_place e) earlier ≡ false) (kept_after earlier xs)
+        → AllByRecursion (λ e. find (same_place e) xs ≡ Some e) (kept_after (x ∷ earlier) xs) → AllByRecursion (λ e. list_any (same_place e) (x ∷ earlier) ≡ false) (kept_after (x ∷ earlier) xs)
+        → AllByRecursion (λ e. find (same_place e) (x ∷ xs) ≡ Some e) (cond b (kept_after earlier xs) (x ∷ kept_after (x ∷ earlier) xs))
+    go true h r f s g = all_both (λ e. find (same_place e) xs ≡ Some e) (λ e. list_any (same_place e) earlier ≡ false) (λ e. find (same_place e) (x ∷ xs) ≡ Some e) (λ e a fresh. past e (merged h e fresh) a) (kept_after earlier xs) r f
     go false h r f s g = (
       cond-true (same_place x x) (Some x) (find (same_place x) xs) (same_place-refl x),
       all_both (λ e. find (same_place e) xs ≡ Some e) (λ e. list_any (same_place e) (x ∷ earlier) ≡ false) (λ e. find (same_place e) (x ∷ xs) ≡ Some e)
-          (λ e a fresh. past e (or_parts (same_place e x) (list_any (same_place e) earlier) fresh).0 a) (kept_behind (x ∷ earlier) xs) s g,
+          (λ e a fresh. past e (or_parts (same_place e x) (list_any (same_place e) earlier) fresh).0 a) (kept_after (x ∷ earlier) xs) s g,
     )
 
 -- ---- those that pass a test
 
 -- in file order
-pub kept-order : (p : Element → Bool) (earlier es : List Element) → IsSublist (filter p (kept_behind earlier es)) es
+pub kept-order : (p : Element → Bool) (earlier es : List Element) → IsSublist (filter p (kept_after earlier es)) es
 kept-order p earlier [] = refl
 kept-order p earlier (e ∷ es) = go (list_any (same_place e) earlier) (p e) (kept-order p earlier es) (kept-order p (e ∷ earlier) es)
   where
-    go : (b c : Bool) → IsSublist (filter p (kept_behind earlier es)) es → IsSublist (filter p (kept_behind (e ∷ earlier) es)) es
-        → IsSublist (filter p (cond b (kept_behind earlier es) (e ∷ kept_behind (e ∷ earlier) es))) (e ∷ es)
+    go : (b c : Bool) → IsSublist (filter p (kept_after earlier es)) es → IsSublist (filter p (kept_after (e ∷ earlier) es)) es
+        → IsSublist (filter p (cond b (kept_after earlier es) (e ∷ kept_after (e ∷ earlier) es))) (e ∷ es)
     go true c r s = inl r
     go false c r s = with_test (p e)
       where
-        with_test : (d : Bool) → IsSublist (cond d (e ∷ filter p (kept_behind (e ∷ earlier) es)) (filter p (kept_behind (e ∷ earlier) es))) (e ∷ es)
-        with_test true = inr (filter p (kept_behind (e ∷ earlier) es), refl, s)
+        with_test : (d : Bool) → IsSublist (cond d (e ∷ filter p (kept_after (e ∷ earlier) es)) (filter p (kept_after (e ∷ earlier) es))) (e ∷ es)
+        with_test true = inr (filter p (kept_after (e ∷ earlier) es), refl, s)
         with_test false = inl s
 
 -- no two at one place
-pub kept-differ : (p : Element → Bool) (earlier es : List Element) → differ_in_place (filter p (kept_behind earlier es)) ≡ true
+pub kept-differ : (p : Element → Bool) (earlier es : List Element) → differ_in_place (filter p (kept_after earlier es)) ≡ true
 kept-differ p earlier [] = refl
 kept-differ p earlier (e ∷ es) = go (list_any (same_place e) earlier) (kept-differ p earlier es) (kept-differ p (e ∷ earlier) es) (kept-fresh (e ∷ earlier) es)
   where
@@ -100,16 +100,16 @@ kept-differ p earlier (e ∷ es) = go (list_any (same_place e) earlier) (kept-di
         none false g = refl
         none true g = absurd (true≢false (sym (same_place-sym e f g) ∙ (or_parts (same_place f e) (list_any (same_place f) earlier) fresh).0))
 
-    go : (b : Bool) → differ_in_place (filter p (kept_behind earlier es)) ≡ true → differ_in_place (filter p (kept_behind (e ∷ earlier) es)) ≡ true
-        → AllByRecursion (λ f. list_any (same_place f) (e ∷ earlier) ≡ false) (kept_behind (e ∷ earlier) es)
-        → differ_in_place (filter p (cond b (kept_behind earlier es) (e ∷ kept_behind (e ∷ earlier) es))) ≡ true
+    go : (b : Bool) → differ_in_place (filter p (kept_after earlier es)) ≡ true → differ_in_place (filter p (kept_after (e ∷ earlier) es)) ≡ true
+        → AllByRecursion (λ f. list_any (same_place f) (e ∷ earlier) ≡ false) (kept_after (e ∷ earlier) es)
+        → differ_in_place (filter p (cond b (kept_after earlier es) (e ∷ kept_after (e ∷ earlier) es))) ≡ true
     go true r s fresh = r
     go false r s fresh = with_test (p e)
       where
-        with_test : (d : Bool) → differ_in_place (cond d (e ∷ filter p (kept_behind (e ∷ earlier) es)) (filter p (kept_behind (e ∷ earlier) es))) ≡ true
+        with_test : (d : Bool) → differ_in_place (cond d (e ∷ filter p (kept_after (e ∷ earlier) es)) (filter p (kept_after (e ∷ earlier) es))) ≡ true
         with_test true = ap₂ (λ a b. not a && b)
-            (none_passes (same_place e) (filter p (kept_behind (e ∷ earlier) es)) (all_filter (λ f. same_place e f ≡ false) p (kept_behind (e ∷ earlier) es)
-            (all_weaker (λ f. list_any (same_place f) (e ∷ earlier) ≡ false) (λ f. same_place e f ≡ false) other (kept_behind (e ∷ earlier) es) fresh))) s
+            (none_passes (same_place e) (filter p (kept_after (e ∷ earlier) es)) (all_filter (λ f. same_place e f ≡ false) p (kept_after (e ∷ earlier) es)
+            (all_weaker (λ f. list_any (same_place f) (e ∷ earlier) ≡ false) (λ f. same_place e f ≡ false) other (kept_after (e ∷ earlier) es) fresh))) s
         with_test false = s
 
 -- ---- cells
@@ -141,7 +141,7 @@ cells-order c = kept-order (is_top c) [] c.elements
 
 pub cells-first : (c : Content) → AllByRecursion (λ (e : Element). find (same_place e) c.elements ≡ Some e) (cell_elements c)
 unfolding cell_elements kept
-cells-first c = all_filter (λ (e : Element). find (same_place e) c.elements ≡ Some e) (is_top c) (kept_behind [] c.elements) (kept-first [] c.elements)
+cells-first c = all_filter (λ (e : Element). find (same_place e) c.elements ≡ Some e) (is_top c) (kept_after [] c.elements) (kept-first [] c.elements)
 
 pub cells-differ : (c : Content) → differ_in_place (cell_elements c) ≡ true
 unfolding cell_elements kept

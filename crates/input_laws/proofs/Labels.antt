@@ -6,24 +6,24 @@ use Rattle.std.proofs.lemmas.Bool.{and_parts}
 use Rattle.plain_lists.specs.Lists.{sorted}
 use Rattle.mesh_defs.specs.Mesh.{Mesh, Mark}
 use Rattle.input_defs.specs.Content.{Element, Content}
-use Rattle.input_defs.specs.Meshes.{dim, is_top, greatest_dim, vertex_nodes, cell_elements, cell_of, cells_of, kept, is_labelled, is_point, point_of_element, mark_of, marks_of, mesh_of, accepted}
+use Rattle.input_defs.specs.Meshes.{dim, is_top, greatest_dim, vertex_nodes, cell_elements, cell_of, cells_of, kept, is_labelled, is_point_of, point_of_element, mark_of, marks_of, mesh_of, accepted}
 use Rattle.mesh_laws.proofs.Places.{all_map, all_weaker}
 use Rattle.input_laws.proofs.Kept.{accepted-mesh, all_passing}
 
 -- the marks of a content are on points of its cells
-pub marks-on_points : (c : Content) → AllByRecursion (λ (mark : Mark). is_point (cells_of c) (record { dim = mark.dim; vertices = sorted mark.vertices }) ≡ true) (marks_of c)
+pub marks-on_points : (c : Content) → AllByRecursion (λ (mark : Mark). is_point_of (cells_of c) (record { dim = mark.dim; vertices = sorted mark.vertices }) ≡ true) (marks_of c)
 unfolding marks_of
 marks-on_points c =
-    all_map (λ (mark : Mark). is_point (cells_of c) (record { dim = mark.dim; vertices = sorted mark.vertices }) ≡ true) (mark_of (vertex_nodes c)) (filter test c.elements)
-    (all_weaker (λ e. test e ≡ true) (λ e. is_point (cells_of c) (point_of_element (vertex_nodes c) e) ≡ true) (λ e h. (and_parts (is_labelled e) (is_point (cells_of c) (point_of_element (vertex_nodes c) e)) h).1) (filter test c.elements) (all_passing test c.elements))
+    all_map (λ (mark : Mark). is_point_of (cells_of c) (record { dim = mark.dim; vertices = sorted mark.vertices }) ≡ true) (mark_of (vertex_nodes c)) (filter test c.elements)
+    (all_weaker (λ e. test e ≡ true) (λ e. is_point_of (cells_of c) (point_of_element (vertex_nodes c) e) ≡ true) (λ e h. (and_parts (is_labelled e) (is_point_of (cells_of c) (point_of_element (vertex_nodes c) e)) h).1) (filter test c.elements) (all_passing test c.elements))
   where
     test : Element → Bool
-    test e = is_labelled e && is_point (cells_of c) (point_of_element (vertex_nodes c) e)
+    test e = is_labelled e && is_point_of (cells_of c) (point_of_element (vertex_nodes c) e)
 
 -- so are those of its mesh
-pub labels-on_points : (c : Content) (m : Mesh) → accepted c ≡ Ok m → AllByRecursion (λ (mark : Mark). is_point m.cells (record { dim = mark.dim; vertices = sorted mark.vertices }) ≡ true) m.marks
+pub labels-on_points : (c : Content) (m : Mesh) → accepted c ≡ Ok m → AllByRecursion (λ (mark : Mark). is_point_of m.cells (record { dim = mark.dim; vertices = sorted mark.vertices }) ≡ true) m.marks
 unfolding mesh_of
-labels-on_points c m h = subst (λ (m' : Mesh). AllByRecursion (λ (mark : Mark). is_point m'.cells (record { dim = mark.dim; vertices = sorted mark.vertices }) ≡ true) m'.marks) (accepted-mesh c m h) (marks-on_points c)
+labels-on_points c m h = subst (λ (m' : Mesh). AllByRecursion (λ (mark : Mark). is_point_of m'.cells (record { dim = mark.dim; vertices = sorted mark.vertices }) ≡ true) m'.marks) (accepted-mesh c m h) (marks-on_points c)
 
 -- the cells of a mesh
 pub cells-made : (c : Content) (m : Mesh) → accepted c ≡ Ok m → m.cells ≡ map (cell_of (vertex_nodes c)) (cell_elements c)

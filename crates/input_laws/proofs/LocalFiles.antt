@@ -13,7 +13,7 @@ use Rattle.input_defs.specs.Causes.{◌>>=◌, map_ok, first_cause, unless}
 use Rattle.input_defs.specs.Bodies.{Lexeme, whole}
 use Rattle.input_defs.specs.Sections.{faults_of, format, names, nodes, elements}
 use Rattle.input_defs.specs.DataSections.{faults_at, section, section_of}
-use Rattle.input_defs.specs.Files.{Block, Known, Format, Names, Nodes, Elements, Data, known, closing, closes, Parts, causes, misplaced, unfinished, of_data, numbers_on, with_section, ending, cut_short, Due, Opening, Closing, Skipping, is_wrong_header, begun, step, content_of, finished, said}
+use Rattle.input_defs.specs.Files.{Block, Known, Format, Names, Nodes, Elements, Data, known, closing, closes, Parts, causes, misplaced, unfinished, of_data, file_numbers, with_section, ending_line, cut_short, Expected, Opening, Closing, Skipping, is_wrong_header, begun, with_block, content_of, finished, said}
 use Rattle.input_laws.specs.FaultLines.{line_of, data_line_of}
 use Rattle.input_laws.proofs.Local.{Beyond, Upto, SameButEnd, whole-beyond, whole-before}
 use Rattle.input_laws.proofs.LocalSections.{format-local, names-local, nodes-local, elements-local, section-local, msh-tell, data-tell}
@@ -105,19 +105,19 @@ with_section-local parts Nodes = record {
   before = λ l end end' ended ended' ps xs ys e less late upto x y h low. ap (map_ok _) (whole-before line_of BadCount nodes (λ k. refl) nodes-local l (faults_of ended) (faults_of ended') ps xs ys e (msh-tell ended) late (same-msh ended ended') upto x y (map_ok-err _ _ e h) low);
 }
 with_section-local parts Elements = record {
-  beyond = λ l end ended xs e less late beyond h. whole-beyond line_of BadCount (elements (numbers_on parts place.Node)) (λ k. refl) (elements-local (numbers_on parts place.Node)) l (faults_of ended) xs e (msh-tell ended) late beyond (map_ok-err _ _ e h);
-  before = λ l end end' ended ended' ps xs ys e less late upto x y h low. ap (map_ok _) (whole-before line_of BadCount (elements (numbers_on parts place.Node)) (λ k. refl) (elements-local (numbers_on parts place.Node)) l (faults_of ended) (faults_of ended') ps xs ys e (msh-tell ended) late (same-msh ended ended') upto x y (map_ok-err _ _ e h) low);
+  beyond = λ l end ended xs e less late beyond h. whole-beyond line_of BadCount (elements (file_numbers parts place.Node)) (λ k. refl) (elements-local (file_numbers parts place.Node)) l (faults_of ended) xs e (msh-tell ended) late beyond (map_ok-err _ _ e h);
+  before = λ l end end' ended ended' ps xs ys e less late upto x y h low. ap (map_ok _) (whole-before line_of BadCount (elements (file_numbers parts place.Node)) (λ k. refl) (elements-local (file_numbers parts place.Node)) l (faults_of ended) (faults_of ended') ps xs ys e (msh-tell ended) late (same-msh ended ended') upto x y (map_ok-err _ _ e h) low);
 }
 with_section-local parts (Data on) = record {
   beyond = λ l end ended xs e less late beyond h.
       let g = map_ok-err _ _ e h in
-      let d = of_data-err ended (whole data_fault.BadCount (section on (numbers_on parts on)) (faults_at end) xs) e g in
-      of_data-line ended end l d.0 e late (whole-beyond data_line_of data_fault.BadCount (section on (numbers_on parts on)) (λ k. refl) (section-local on (numbers_on parts on)) l (faults_at end) xs d.0 (data-tell end) less beyond d.1) (sym (ap (of_data ended) d.1) ∙ g);
+      let d = of_data-err ended (whole data_fault.BadCount (section on (file_numbers parts on)) (faults_at end) xs) e g in
+      of_data-line ended end l d.0 e late (whole-beyond data_line_of data_fault.BadCount (section on (file_numbers parts on)) (λ k. refl) (section-local on (file_numbers parts on)) l (faults_at end) xs d.0 (data-tell end) less beyond d.1) (sym (ap (of_data ended) d.1) ∙ g);
   before = λ l end end' ended ended' ps xs ys e less late upto x y h low.
       let g = map_ok-err _ _ e h in
-      let d = of_data-err ended (whole data_fault.BadCount (section on (numbers_on parts on)) (faults_at end) (ps ++ xs)) e g in
+      let d = of_data-err ended (whole data_fault.BadCount (section on (file_numbers parts on)) (faults_at end) (ps ++ xs)) e g in
       let both = of_data-low ended ended' l d.0 e late low (sym (ap (of_data ended) d.1) ∙ g) in
-      ap (map_ok _) (ap (of_data ended') (whole-before data_line_of data_fault.BadCount (section on (numbers_on parts on)) (λ k. refl) (section-local on (numbers_on parts on)) l (faults_at end) (faults_at end') ps xs ys d.0 (data-tell end) less (same-data end end') upto x y d.1 both.0) ∙ both.1);
+      ap (map_ok _) (ap (of_data ended') (whole-before data_line_of data_fault.BadCount (section on (file_numbers parts on)) (λ k. refl) (section-local on (file_numbers parts on)) l (faults_at end) (faults_at end') ps xs ys d.0 (data-tell end) less (same-data end end') upto x y d.1 both.0) ∙ both.1);
 }
 
 -- ---- blocks behind a line
@@ -128,7 +128,7 @@ BeyondBlock l b = (l < b.line) × Beyond l b.body
 abbrev pub AllBeyond : ℕ → List Block → Type 0
 AllBeyond l bs = AllByRecursion (BeyondBlock l) bs
 
-ending-beyond : (l end : ℕ) (bs : List Block) → l < end → AllBeyond l bs → l < ending end bs
+ending-beyond : (l end : ℕ) (bs : List Block) → l < end → AllBeyond l bs → l < ending_line end bs
 unfolding BeyondBlock
 ending-beyond l end [] less beyond = less
 ending-beyond l end (b ∷ bs) less beyond = beyond.0.0
@@ -146,7 +146,7 @@ cut_short-beyond l end name (b ∷ bs) less beyond = go (closes name b)
 abbrev the_err : MshFault → Result Content MshFault
 the_err e = Err e
 
-abbrev the_step : Result (Due × Parts) MshFault → Result (Due × Parts) MshFault
+abbrev the_step : Result (Expected × Parts) MshFault → Result (Expected × Parts) MshFault
 the_step o = o
 
 at_line : (l line : ℕ) (e f : MshFault) → line_of f ≡ line → l < line → the_err f ≡ the_err e → l < line_of e
@@ -157,14 +157,14 @@ unfolding BeyondBlock
 begun-beyond l end parts b bs (Some k) e less here beyond h = go (misplaced parts b.line k) refl h
   where
     section_of_block : Result Parts MshFault
-    section_of_block = with_section (ending end bs) (cut_short end b.name bs) parts k b.body
+    section_of_block = with_section (ending_line end bs) (cut_short end b.name bs) parts k b.body
 
     read : (o : Result Parts MshFault) → section_of_block ≡ o → (o >>= (λ with. Ok (Closing b.name, with))) ≡ the_step (Err e) → l < line_of e
     read (Ok with) is t = absurd (cc t)
     read (Err d) is t = let same : d ≡ e = cc t in
-        (with_section-local parts k).beyond l (ending end bs) (cut_short end b.name bs) b.body e (ending-beyond l end bs less beyond) (cut_short-beyond l end b.name bs less beyond) here.1 (is ∙ ap Err same)
+        (with_section-local parts k).beyond l (ending_line end bs) (cut_short end b.name bs) b.body e (ending-beyond l end bs less beyond) (cut_short-beyond l end b.name bs less beyond) here.1 (is ∙ ap Err same)
 
-    go : (o : Option MshFault) → misplaced parts b.line k ≡ o → (unless o parts >>= (λ before. with_section (ending end bs) (cut_short end b.name bs) before k b.body >>= (λ with. Ok (Closing b.name, with)))) ≡ the_step (Err e) → l < line_of e
+    go : (o : Option MshFault) → misplaced parts b.line k ≡ o → (unless o parts >>= (λ before. with_section (ending_line end bs) (cut_short end b.name bs) before k b.body >>= (λ with. Ok (Closing b.name, with)))) ≡ the_step (Err e) → l < line_of e
     go (Some f) is t = at_line l b.line e f (misplaced-line parts b.line k f is) here.0 (cc t)
     go None is t = read section_of_block refl t
 begun-beyond l end parts b bs None e less here beyond h = go (is_wrong_header b.name) h
@@ -173,8 +173,8 @@ begun-beyond l end parts b bs None e less here beyond h = go (is_wrong_header b.
     go true t = at_line l b.line e (Header b.line) refl here.0 (cc t)
     go false t = absurd (cc t)
 
-step-beyond : (l end : ℕ) (due : Due) (parts : Parts) (b : Block) (bs : List Block) (e : MshFault) → l < end → BeyondBlock l b → AllBeyond l bs → step end due parts b bs ≡ Err e → l < line_of e
-unfolding step BeyondBlock
+step-beyond : (l end : ℕ) (due : Expected) (parts : Parts) (b : Block) (bs : List Block) (e : MshFault) → l < end → BeyondBlock l b → AllBeyond l bs → with_block end due parts b bs ≡ Err e → l < line_of e
+unfolding with_block BeyondBlock
 step-beyond l end Opening parts b bs e less here beyond h = begun-beyond l end parts b bs (known b.name) e less here beyond h
 step-beyond l end (Closing name) parts b bs e less here beyond h = go (closes name b) h
   where
@@ -183,7 +183,7 @@ step-beyond l end (Closing name) parts b bs e less here beyond h = go (closes na
     go false t = at_line l b.line e (Unclosed b.line) refl here.0 (cc t)
 step-beyond l end (Skipping name) parts b bs e less here beyond h = absurd (cc h)
 
-finished-beyond : (l end : ℕ) (due : Due) (parts : Parts) (e : MshFault) → l < end → finished end due parts ≡ Err e → l < line_of e
+finished-beyond : (l end : ℕ) (due : Expected) (parts : Parts) (e : MshFault) → l < end → finished end due parts ≡ Err e → l < line_of e
 finished-beyond l end Opening parts e less h = go (unfinished parts end) refl h
   where
     go : (o : Option MshFault) → unfinished parts end ≡ o → unless o (content_of parts) ≡ Err e → l < line_of e
@@ -193,12 +193,12 @@ finished-beyond l end (Closing name) parts e less h = at_line l end e (Unclosed 
 finished-beyond l end (Skipping name) parts e less h = at_line l end e (Unclosed end) refl less h
 
 -- a fault of blocks behind a line is behind it
-pub said-beyond : (l end : ℕ) (due : Due) (parts : Parts) (bs : List Block) (e : MshFault) → l < end → AllBeyond l bs → said end due parts bs ≡ Err e → l < line_of e
+pub said-beyond : (l end : ℕ) (due : Expected) (parts : Parts) (bs : List Block) (e : MshFault) → l < end → AllBeyond l bs → said end due parts bs ≡ Err e → l < line_of e
 unfolding said
 said-beyond l end due parts [] e less beyond h = finished-beyond l end due parts e less h
-said-beyond l end due parts (b ∷ bs) e less beyond h = go (step end due parts b bs) refl h (λ due' parts'. said-beyond l end due' parts' bs e less beyond.1)
+said-beyond l end due parts (b ∷ bs) e less beyond h = go (with_block end due parts b bs) refl h (λ due' parts'. said-beyond l end due' parts' bs e less beyond.1)
   where
-    go : (o : Result (Due × Parts) MshFault) → step end due parts b bs ≡ o → (o >>= (λ next. said end next.0 next.1 bs)) ≡ Err e → ((due' : Due) (parts' : Parts) → said end due' parts' bs ≡ Err e → l < line_of e) → l < line_of e
+    go : (o : Result (Expected × Parts) MshFault) → with_block end due parts b bs ≡ o → (o >>= (λ next. said end next.0 next.1 bs)) ≡ Err e → ((due' : Expected) (parts' : Parts) → said end due' parts' bs ≡ Err e → l < line_of e) → l < line_of e
     go (Ok next) is t r = r next.0 next.1 t
     go (Err d) is t r = let same : d ≡ e = cc t in step-beyond l end due parts b bs e less beyond.0 beyond.1 (is ∙ ap Err same)
 
@@ -220,19 +220,19 @@ begun-before : (l end end' : ℕ) (parts : Parts) (name : List ℕ) (line : ℕ)
 begun-before l end end' parts name line ps xs ys us bs (Some k) e rests low h = go (misplaced parts line k) refl h
   where
     second : Parts → Result Parts MshFault
-    second before = with_section (ending end' bs) (cut_short end' name bs) before k (ps ++ ys)
+    second before = with_section (ending_line end' bs) (cut_short end' name bs) before k (ps ++ ys)
 
     first : Result Parts MshFault
-    first = with_section (ending end us) (cut_short end name us) parts k (ps ++ xs)
+    first = with_section (ending_line end us) (cut_short end name us) parts k (ps ++ xs)
 
     read : (o : Result Parts MshFault) → first ≡ o → ((o >>= (λ with. the_step (Ok (Closing name, with)))) >>= (λ next. said end next.0 next.1 us)) ≡ Err e → ((second parts >>= (λ with. the_step (Ok (Closing name, with)))) >>= (λ next. said end' next.0 next.1 bs)) ≡ Err e
     read (Ok with) is t = absurd (omega (arith, low, said-beyond l end (Closing name) with us e rests.less rests.blocks t))
     read (Err d) is t = let same : d ≡ e = cc t in
         ap (λ o. (o >>= (λ with. the_step (Ok (Closing name, with)))) >>= (λ next. said end' next.0 next.1 bs))
-        ((with_section-local parts k).before l (ending end us) (ending end' bs) (cut_short end name us) (cut_short end' name bs) ps xs ys e (ending-beyond l end us rests.less rests.blocks) (cut_short-beyond l end name us rests.less rests.blocks) rests.upto rests.first rests.second (is ∙ ap Err same) low)
+        ((with_section-local parts k).before l (ending_line end us) (ending_line end' bs) (cut_short end name us) (cut_short end' name bs) ps xs ys e (ending-beyond l end us rests.less rests.blocks) (cut_short-beyond l end name us rests.less rests.blocks) rests.upto rests.first rests.second (is ∙ ap Err same) low)
 
     go : (o : Option MshFault) → misplaced parts line k ≡ o
-        → ((unless o parts >>= (λ before. with_section (ending end us) (cut_short end name us) before k (ps ++ xs) >>= (λ with. the_step (Ok (Closing name, with))))) >>= (λ next. said end next.0 next.1 us)) ≡ Err e
+        → ((unless o parts >>= (λ before. with_section (ending_line end us) (cut_short end name us) before k (ps ++ xs) >>= (λ with. the_step (Ok (Closing name, with))))) >>= (λ next. said end next.0 next.1 us)) ≡ Err e
         → ((unless (misplaced parts line k) parts >>= (λ before. second before >>= (λ with. the_step (Ok (Closing name, with))))) >>= (λ next. said end' next.0 next.1 bs)) ≡ Err e
     go (Some f) is t = ap (λ o. (unless o parts >>= (λ before. second before >>= (λ with. the_step (Ok (Closing name, with))))) >>= (λ next. said end' next.0 next.1 bs)) is ∙ t
     go None is t = ap (λ o. (unless o parts >>= (λ before. second before >>= (λ with. the_step (Ok (Closing name, with))))) >>= (λ next. said end' next.0 next.1 bs)) is ∙ read first refl t
@@ -243,9 +243,9 @@ begun-before l end end' parts name line ps xs ys us bs None e rests low h = go (
     go false t = absurd (omega (arith, low, said-beyond l end (Skipping name) parts us e rests.less rests.blocks t))
 
 -- the block in which the line ends
-cut-before : (l end end' : ℕ) (due : Due) (parts : Parts) (name : List ℕ) (line : ℕ) (ps xs ys : List Lexeme) (us bs : List Block) (e : MshFault) → Rests l end ps xs ys us → line_of e ≤ l
+cut-before : (l end end' : ℕ) (due : Expected) (parts : Parts) (name : List ℕ) (line : ℕ) (ps xs ys : List Lexeme) (us bs : List Block) (e : MshFault) → Rests l end ps xs ys us → line_of e ≤ l
     → said end due parts (block_of name line (ps ++ xs) ∷ us) ≡ Err e → said end' due parts (block_of name line (ps ++ ys) ∷ bs) ≡ Err e
-unfolding said step
+unfolding said with_block
 cut-before l end end' Opening parts name line ps xs ys us bs e rests low h = begun-before l end end' parts name line ps xs ys us bs (known name) e rests low h
 cut-before l end end' (Closing wanted) parts name line ps xs ys us bs e rests low h = go (same_list name (closing wanted)) h
   where
@@ -255,8 +255,8 @@ cut-before l end end' (Closing wanted) parts name line ps xs ys us bs e rests lo
 cut-before l end end' (Skipping wanted) parts name line ps xs ys us bs e rests low h = absurd (omega (arith, low, said-beyond l end (cond (same_list name (closing wanted)) Opening (Skipping wanted)) parts us e rests.less rests.blocks h))
 
 -- a block before that one
-step-same : (end end' : ℕ) (due : Due) (parts : Parts) (b : Block) (us bs : List Block) → ending end us ≡ ending end' bs → ((name : List ℕ) → cut_short end name us ≡ cut_short end' name bs) → step end due parts b us ≡ step end' due parts b bs
-unfolding step
+step-same : (end end' : ℕ) (due : Expected) (parts : Parts) (b : Block) (us bs : List Block) → ending_line end us ≡ ending_line end' bs → ((name : List ℕ) → cut_short end name us ≡ cut_short end' name bs) → with_block end due parts b us ≡ with_block end' due parts b bs
+unfolding with_block
 step-same end end' Opening parts b us bs p q = go (known b.name)
   where
     go : (k : Option Known) → begun end parts b us k ≡ begun end' parts b bs k
@@ -266,19 +266,19 @@ step-same end end' (Closing name) parts b us bs p q = refl
 step-same end end' (Skipping name) parts b us bs p q = refl
 
 -- a fault up to a line is there whatever stands behind it
-pub said-before : (l end end' : ℕ) (due : Due) (parts : Parts) (cs : List Block) (name : List ℕ) (line : ℕ) (ps xs ys : List Lexeme) (us bs : List Block) (e : MshFault) → Rests l end ps xs ys us → line_of e ≤ l
+pub said-before : (l end end' : ℕ) (due : Expected) (parts : Parts) (cs : List Block) (name : List ℕ) (line : ℕ) (ps xs ys : List Lexeme) (us bs : List Block) (e : MshFault) → Rests l end ps xs ys us → line_of e ≤ l
     → said end due parts (cs ++ block_of name line (ps ++ xs) ∷ us) ≡ Err e → said end' due parts (cs ++ block_of name line (ps ++ ys) ∷ bs) ≡ Err e
 unfolding said
 said-before l end end' due parts [] name line ps xs ys us bs e rests low h = cut-before l end end' due parts name line ps xs ys us bs e rests low h
 said-before l end end' due parts (c ∷ cs) name line ps xs ys us bs e rests low h =
-    ap (λ o. o >>= (λ next. said end' next.0 next.1 (cs ++ block_of name line (ps ++ ys) ∷ bs))) (sym (same cs)) ∙ go (step end due parts c (cs ++ block_of name line (ps ++ xs) ∷ us)) h (λ due' parts'. said-before l end end' due' parts' cs name line ps xs ys us bs e rests low)
+    ap (λ o. o >>= (λ next. said end' next.0 next.1 (cs ++ block_of name line (ps ++ ys) ∷ bs))) (sym (same cs)) ∙ go (with_block end due parts c (cs ++ block_of name line (ps ++ xs) ∷ us)) h (λ due' parts'. said-before l end end' due' parts' cs name line ps xs ys us bs e rests low)
   where
-    same : (ds : List Block) → step end due parts c (ds ++ block_of name line (ps ++ xs) ∷ us) ≡ step end' due parts c (ds ++ block_of name line (ps ++ ys) ∷ bs)
+    same : (ds : List Block) → with_block end due parts c (ds ++ block_of name line (ps ++ xs) ∷ us) ≡ with_block end' due parts c (ds ++ block_of name line (ps ++ ys) ∷ bs)
     same [] = step-same end end' due parts c (block_of name line (ps ++ xs) ∷ us) (block_of name line (ps ++ ys) ∷ bs) refl (λ n. refl)
     same (d ∷ ds) = step-same end end' due parts c (d ∷ (ds ++ block_of name line (ps ++ xs) ∷ us)) (d ∷ (ds ++ block_of name line (ps ++ ys) ∷ bs)) refl (λ n. refl)
 
-    go : (o : Result (Due × Parts) MshFault) → (o >>= (λ next. said end next.0 next.1 (cs ++ block_of name line (ps ++ xs) ∷ us))) ≡ Err e
-        → ((due' : Due) (parts' : Parts) → said end due' parts' (cs ++ block_of name line (ps ++ xs) ∷ us) ≡ Err e → said end' due' parts' (cs ++ block_of name line (ps ++ ys) ∷ bs) ≡ Err e)
+    go : (o : Result (Expected × Parts) MshFault) → (o >>= (λ next. said end next.0 next.1 (cs ++ block_of name line (ps ++ xs) ∷ us))) ≡ Err e
+        → ((due' : Expected) (parts' : Parts) → said end due' parts' (cs ++ block_of name line (ps ++ xs) ∷ us) ≡ Err e → said end' due' parts' (cs ++ block_of name line (ps ++ ys) ∷ bs) ≡ Err e)
         → (o >>= (λ next. said end' next.0 next.1 (cs ++ block_of name line (ps ++ ys) ∷ bs))) ≡ Err e
     go (Ok next) t r = r next.0 next.1 t
     go (Err d) t r = t

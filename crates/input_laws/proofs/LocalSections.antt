@@ -13,8 +13,8 @@ use Rattle.input_defs.specs.declared.MshFault.{MshFault}
 use Rattle.input_defs.specs.declared.MshFault.TheVariants.{Version, Binary, RepeatedNodeNumber, ElementType, UnknownNode, RepeatedNode, OutOfRange, TooMany}
 use Rattle.input_defs.specs.Causes.{ok_where}
 use Rattle.input_defs.specs.Bodies.{number, tested, int, fixed, quoted}
-use Rattle.input_defs.specs.Sections.{faults_of, number_fault, has, count, is_version, format, name, names, node, nodes_behind, nodes, poly_of_type, corners_of_type, corners_behind, element, elements}
-use Rattle.input_defs.specs.DataSections.{number_fault as data_number_fault, faults_at, real, comps_on, rows_on, row, section}
+use Rattle.input_defs.specs.Sections.{faults_of, section_number_fault, has_number, count, is_version, format, name, names, node, nodes_after, nodes, poly_of_type, corners_of_type, corners_after, element, elements}
+use Rattle.input_defs.specs.DataSections.{data_number_fault as data_number_fault, faults_at, real, comps_on, rows_on, row, section}
 use Rattle.input_laws.specs.FaultLines.{line_of, data_line_of}
 use Rattle.input_laws.proofs.Local.{TellLines, IsLocal, give-local, bind-local, many-local, tested-local, quoted-local}
 
@@ -54,23 +54,23 @@ unfolding names
 names-local = bind-local line_of _ _ (count-local 1024 what.Names) (λ n. many-local line_of name n name-local)
 
 -- the number of a node: 0, or an earlier one, is a fault on its line
-fresh-told : (earlier : List ℕ) (l n : ℕ) (e : MshFault) → cond (n == 0) (Err (OutOfRange l)) (ok_where (not (has earlier n)) n (RepeatedNodeNumber l n)) ≡ Err e → line_of e ≡ l
+fresh-told : (earlier : List ℕ) (l n : ℕ) (e : MshFault) → cond (n == 0) (Err (OutOfRange l)) (ok_where (not (has_number earlier n)) n (RepeatedNodeNumber l n)) ≡ Err e → line_of e ≡ l
 fresh-told earlier l n e h = go (n == 0) h
   where
-    go : (b : Bool) → cond b (Err (OutOfRange l)) (ok_where (not (has earlier n)) n (RepeatedNodeNumber l n)) ≡ Err e → line_of e ≡ l
+    go : (b : Bool) → cond b (Err (OutOfRange l)) (ok_where (not (has_number earlier n)) n (RepeatedNodeNumber l n)) ≡ Err e → line_of e ≡ l
     go true g = let same : OutOfRange l ≡ e = cc g in ap line_of (sym same)
-    go false g = ok_where-err line_of (not (has earlier n)) n (RepeatedNodeNumber l n) e g
+    go false g = ok_where-err line_of (not (has_number earlier n)) n (RepeatedNodeNumber l n) e g
 
 node-local : (earlier : List ℕ) → IsLocal line_of (node earlier)
 unfolding node
-node-local earlier = bind-local line_of _ _ (tested-local line_of uint_of (λ line n. cond (n == 0) (Err (OutOfRange line)) (ok_where (not (has earlier n)) n (RepeatedNodeNumber line n))) (fresh-told earlier)) (λ n.
+node-local earlier = bind-local line_of _ _ (tested-local line_of uint_of (λ line n. cond (n == 0) (Err (OutOfRange line)) (ok_where (not (has_number earlier n)) n (RepeatedNodeNumber line n))) (fresh-told earlier)) (λ n.
     bind-local line_of _ _ (number-local line_of fixed_of) (λ x.
     bind-local line_of _ _ (number-local line_of fixed_of) (λ y.
     bind-local line_of _ _ (number-local line_of fixed_of) (λ z.
     give-local line_of (record { number = n; at = x ∷ y ∷ z ∷ [] })))))
 
-nodes_behind-local : (earlier : List ℕ) (n : ℕ) → IsLocal line_of (nodes_behind earlier n)
-unfolding nodes_behind
+nodes_behind-local : (earlier : List ℕ) (n : ℕ) → IsLocal line_of (nodes_after earlier n)
+unfolding nodes_after
 nodes_behind-local earlier zero = give-local line_of []
 nodes_behind-local earlier (suc n) = bind-local line_of _ _ (node-local earlier) (λ first.
     bind-local line_of _ _ (nodes_behind-local (first.number ∷ earlier) n) (λ others.
@@ -80,16 +80,16 @@ pub nodes-local : IsLocal line_of nodes
 unfolding nodes
 nodes-local = bind-local line_of _ _ (count-local 500000 what.Nodes) (λ n. nodes_behind-local [] n)
 
-corner-told : (known earlier : List ℕ) (l n : ℕ) (e : MshFault) → cond (has known n) (ok_where (not (has earlier n)) n (RepeatedNode l n)) (Err (UnknownNode l n)) ≡ Err e → line_of e ≡ l
-corner-told known earlier l n e h = go (has known n) h
+corner-told : (known earlier : List ℕ) (l n : ℕ) (e : MshFault) → cond (has_number known n) (ok_where (not (has_number earlier n)) n (RepeatedNode l n)) (Err (UnknownNode l n)) ≡ Err e → line_of e ≡ l
+corner-told known earlier l n e h = go (has_number known n) h
   where
-    go : (b : Bool) → cond b (ok_where (not (has earlier n)) n (RepeatedNode l n)) (Err (UnknownNode l n)) ≡ Err e → line_of e ≡ l
-    go true g = ok_where-err line_of (not (has earlier n)) n (RepeatedNode l n) e g
+    go : (b : Bool) → cond b (ok_where (not (has_number earlier n)) n (RepeatedNode l n)) (Err (UnknownNode l n)) ≡ Err e → line_of e ≡ l
+    go true g = ok_where-err line_of (not (has_number earlier n)) n (RepeatedNode l n) e g
     go false g = let same : UnknownNode l n ≡ e = cc g in ap line_of (sym same)
 
-corners-local : (known earlier : List ℕ) (n : ℕ) → IsLocal line_of (corners_behind known earlier n)
+corners-local : (known earlier : List ℕ) (n : ℕ) → IsLocal line_of (corners_after known earlier n)
 corners-local known earlier zero = give-local line_of []
-corners-local known earlier (suc n) = bind-local line_of _ _ (tested-local line_of uint_of (λ line n. cond (has known n) (ok_where (not (has earlier n)) n (RepeatedNode line n)) (Err (UnknownNode line n))) (corner-told known earlier)) (λ first.
+corners-local known earlier (suc n) = bind-local line_of _ _ (tested-local line_of uint_of (λ line n. cond (has_number known n) (ok_where (not (has_number earlier n)) n (RepeatedNode line n)) (Err (UnknownNode line n))) (corner-told known earlier)) (λ first.
     bind-local line_of _ _ (corners-local known (first ∷ earlier) n) (λ others.
     give-local line_of (first ∷ others)))
 
@@ -118,7 +118,7 @@ rows-told l (negsuc n) e h = let same : data_fault.BadCount l ≡ e = cc h in ap
 
 row-local : (known : List ℕ) (comps : ℕ) → IsLocal data_line_of (row known comps)
 unfolding row
-row-local known comps = bind-local data_line_of _ _ (checked-local data_line_of uint_of (has known) (λ line n. data_fault.UnknownNumber line n) (λ l x. refl)) (λ n.
+row-local known comps = bind-local data_line_of _ _ (checked-local data_line_of uint_of (has_number known) (λ line n. data_fault.UnknownNumber line n) (λ l x. refl)) (λ n.
     bind-local data_line_of _ _ (many-local data_line_of fixed comps (number-local data_line_of fixed_of)) (λ values.
     give-local data_line_of (record { number = n; values = values })))
 
@@ -141,7 +141,7 @@ section-local on known = bind-local data_line_of _ _ (number-local data_line_of 
 pub msh-tell : (ended : MshFault) → TellLines line_of (faults_of ended)
 msh-tell ended = record { number = lines; name = λ l. refl }
   where
-    lines : (e : NumberFault) (l : ℕ) → line_of (number_fault e l) ≡ l
+    lines : (e : NumberFault) (l : ℕ) → line_of (section_number_fault e l) ≡ l
     lines numbers.NotNumber l = refl
     lines numbers.OutOfRange l = refl
 

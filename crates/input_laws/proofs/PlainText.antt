@@ -6,7 +6,7 @@ use Rattle.std.specs.Fmt.{signed_decimal}
 use Rattle.mesh_defs.specs.Mesh.{Mesh, Mark, Name, Section}
 use Rattle.mesh_defs.specs.Points.{Point, Sight, same_point, point_of}
 use Rattle.mesh_defs.specs.Diagram.{cone}
-use Rattle.text_defs.specs.Text.{alone, number_of, tag, tail_text, line, mesh_line, ranks_line, step_line, point_line, head_text, rank_text, total_text, point_text, points_text, step_text, end_line, plain_text}
+use Rattle.text_defs.specs.Text.{alone, number_of, tag, tail_text, line, mesh_line, ranks_line, step_line, point_line, head_text, rank_text, total_text, point_text, points_text, plain_step_text, end_line, plain_text}
 use Rattle.plex_defs.specs.Labels.{marked_point, label_of, values_at}
 use Rattle.input_defs.specs.Further.{name_line, section_line, dofs_line, labels_at, label_text, labels_text, values_text, data_at, data_text, full_point, full_head, full_text}
 
@@ -41,7 +41,7 @@ plain-head m names fields = ap₂ (λ (ns : List Name) (fs : List Section). mesh
 
 -- the whole text
 pub plain-full : (m : Mesh) → m.marks ≡ [] → m.names ≡ [] → m.fields ≡ [] → full_text m [] ≡ plain_text m
-unfolding full_text plain_text step_text points_text alone
+unfolding full_text plain_text plain_step_text points_text alone
 plain-full m marks names fields =
     ap₂ (λ h ps. h ++ step_line 0 ++ rank_text (0, alone m) ++ total_text m (alone m ∷ []) ++ ps ++ end_line) (plain-head m names fields) points
     ∙ shape (head_text m (alone m ∷ [])) (step_line 0) (rank_text (0, alone m)) (total_text m (alone m ∷ [])) (flat_map (point_text m (number_of (alone m ∷ []))) (enumerate_from (alone m).base (alone m).owned)) end_line

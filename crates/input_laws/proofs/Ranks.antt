@@ -7,7 +7,7 @@ use Rattle.std.proofs.Math.Nat.{div-lt_iff_lt-mul, mod-lt, mul-lt-mul_of_pos_rig
 use Rattle.line_defs.specs.Rows.{lines_of, tokens_of}
 use Rattle.input_defs.specs.declared.PlanFault.{PlanFault}
 use Rattle.input_defs.specs.declared.PlanFault.TheVariants.{Word, Ranks}
-use Rattle.input_defs.specs.Plans.{Plan, Spread, Block, Stripe, Listed, Part, Layers, Form, IsRanks, IsMove, IsDofs, IsShow, Before, at_first, both, form_of, with_form, with_line, plan_with, plan_from, plan_of, rank_by, ranks_above, misfits, misfit}
+use Rattle.input_defs.specs.Plans.{Plan, Spread, Block, Stripe, Listed, Part, Layers, Form, IsRanks, IsMove, IsDofs, IsShow, Before, before_any_line, both, form_of, with_form, with_line, plan_with, plan_from, plan_of, rank_by, ranks_above, misfits, misfit}
 use Rattle.mesh_laws.proofs.Places.{all_at}
 use Rattle.input_laws.proofs.Causes.{unless-ok, first_cause-none, all_parts, all_contained, bind-ok}
 
@@ -63,7 +63,7 @@ plan_from-ranks b end line (text ∷ texts) plan told h =
 -- a plan that is read has a rank
 pub plan_of-ranks : (bytes : List ℕ) (plan : Plan) → plan_of bytes ≡ Ok plan → 1 ≤ plan.ranks
 unfolding plan_of HasRanks
-plan_of-ranks bytes plan h = plan_from-ranks at_first (length (lines_of bytes)) 1 (lines_of bytes) plan (λ n e. absurd (cc e)) h
+plan_of-ranks bytes plan h = plan_from-ranks before_any_line (length (lines_of bytes)) 1 (lines_of bytes) plan (λ n e. absurd (cc e)) h
 
 -- ---- the rank of a cell
 

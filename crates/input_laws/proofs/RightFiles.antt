@@ -14,8 +14,8 @@ use Rattle.input_defs.specs.declared.MshFault.{MshFault}
 use Rattle.input_defs.specs.declared.MshFault.TheVariants.{ElementType, UnknownNode, RepeatedNode, BadCount, Unclosed, Header}
 use Rattle.input_defs.specs.Causes.{map_ok, unless, ok_where}
 use Rattle.input_defs.specs.Bodies.{Lexeme, Faults, Reader, uint, int, give, ◌>>=◌, read_on, many, with_rest, number_where, tested, whole, nothing_left}
-use Rattle.input_defs.specs.Sections.{has, faults_of, count, poly_of_type, corners_of_type, corners_behind, element, elements}
-use Rattle.input_defs.specs.Files.{Block, blocks_of, Known, Format, Names, Nodes, Elements, Data, known, Parts, nothing, causes, misplaced, unfinished, numbers_on, with_section, ending, cut_short, closes, Due, Opening, Closing, Skipping, is_wrong_header, begun, step, content_of, finished, said, content}
+use Rattle.input_defs.specs.Sections.{has_number, faults_of, count, poly_of_type, corners_of_type, corners_after, element, elements}
+use Rattle.input_defs.specs.Files.{Block, blocks_of, Known, Format, Names, Nodes, Elements, Data, known, Parts, nothing, causes, misplaced, unfinished, file_numbers, with_section, ending_line, cut_short, closes, Expected, Opening, Closing, Skipping, is_wrong_header, begun, with_block, content_of, finished, said, content}
 use Rattle.input_laws.proofs.Causes.{unless-ok, first_cause-none, bind-ok, bind}
 use Rattle.plain_lists.specs.Lists.{differ_as_sets}
 use Rattle.input_defs.specs.Meshes.{accepted}
@@ -83,23 +83,23 @@ whole-yields {E} {A} P extra r f body x each h = go (r f body) refl h
 
 -- ---- elements
 
-corner-known : (nodes earlier : List ℕ) (l n m : ℕ) → cond (has nodes n) (ok_where (not (has earlier n)) n (RepeatedNode l n)) (Err (UnknownNode l n)) ≡ Ok m → has nodes m ≡ true
-corner-known nodes earlier l n m h = go (has nodes n) (not (has earlier n)) refl h
+corner-known : (nodes earlier : List ℕ) (l n m : ℕ) → cond (has_number nodes n) (ok_where (not (has_number earlier n)) n (RepeatedNode l n)) (Err (UnknownNode l n)) ≡ Ok m → has_number nodes m ≡ true
+corner-known nodes earlier l n m h = go (has_number nodes n) (not (has_number earlier n)) refl h
   where
-    go : (a b : Bool) → has nodes n ≡ a → cond a (cond b (Ok n) (Err (RepeatedNode l n))) (Err (UnknownNode l n)) ≡ the_number (Ok m) → has nodes m ≡ true
-    go true true is t = sym (ap (has nodes) (ok-same t)) ∙ is
+    go : (a b : Bool) → has_number nodes n ≡ a → cond a (cond b (Ok n) (Err (RepeatedNode l n))) (Err (UnknownNode l n)) ≡ the_number (Ok m) → has_number nodes m ≡ true
+    go true true is t = sym (ap (has_number nodes) (ok-same t)) ∙ is
     go true false is t = absurd (cc t)
     go false b is t = absurd (cc t)
 
-corners-known : (nodes earlier : List ℕ) (n : ℕ) → Yields (AllByRecursion (λ v. has nodes v ≡ true)) (corners_behind nodes earlier n)
-corners-known nodes earlier zero = give-yields MshFault (AllByRecursion (λ v. has nodes v ≡ true)) [] tt
-corners-known nodes earlier (suc n) = bind-yields (λ v. has nodes v ≡ true) (AllByRecursion (λ v. has nodes v ≡ true)) _ _
-    (tested-yields (λ v. has nodes v ≡ true) uint_of (λ line m. cond (has nodes m) (ok_where (not (has earlier m)) m (RepeatedNode line m)) (Err (UnknownNode line m))) (corner-known nodes earlier)) (λ first p.
-    bind-yields (AllByRecursion (λ v. has nodes v ≡ true)) (AllByRecursion (λ v. has nodes v ≡ true)) _ _ (corners-known nodes (first ∷ earlier) n) (λ others q.
-    give-yields MshFault (AllByRecursion (λ v. has nodes v ≡ true)) (first ∷ others) (p, q)))
+corners-known : (nodes earlier : List ℕ) (n : ℕ) → Yields (AllByRecursion (λ v. has_number nodes v ≡ true)) (corners_after nodes earlier n)
+corners-known nodes earlier zero = give-yields MshFault (AllByRecursion (λ v. has_number nodes v ≡ true)) [] tt
+corners-known nodes earlier (suc n) = bind-yields (λ v. has_number nodes v ≡ true) (AllByRecursion (λ v. has_number nodes v ≡ true)) _ _
+    (tested-yields (λ v. has_number nodes v ≡ true) uint_of (λ line m. cond (has_number nodes m) (ok_where (not (has_number earlier m)) m (RepeatedNode line m)) (Err (UnknownNode line m))) (corner-known nodes earlier)) (λ first p.
+    bind-yields (AllByRecursion (λ v. has_number nodes v ≡ true)) (AllByRecursion (λ v. has_number nodes v ≡ true)) _ _ (corners-known nodes (first ∷ earlier) n) (λ others q.
+    give-yields MshFault (AllByRecursion (λ v. has_number nodes v ≡ true)) (first ∷ others) (p, q)))
 
 HasKnown : List ℕ → Element → Type 0
-HasKnown nodes e = AllByRecursion (λ v. has nodes v ≡ true) e.nodes
+HasKnown nodes e = AllByRecursion (λ v. has_number nodes v ≡ true) e.nodes
 
 element-known : (nodes : List ℕ) → Yields (HasKnown nodes) (element nodes)
 unfolding element HasKnown
@@ -107,7 +107,7 @@ element-known nodes = bind-yields (λ x. Unit {0}) (HasKnown nodes) uint _ (yiel
     bind-yields (λ x. Unit {0}) (HasKnown nodes) (tested uint_of (λ line k. ok_where (is_some (poly_of_type k)) k (ElementType line k))) _ (yields-anything _) (λ kind b.
     bind-yields (λ x. Unit {0}) (HasKnown nodes) uint _ (yields-anything uint) (λ tag_count d.
     bind-yields (λ x. Unit {0}) (HasKnown nodes) (many tag_count int) _ (yields-anything _) (λ tags e.
-    bind-yields (AllByRecursion (λ v. has nodes v ≡ true)) (HasKnown nodes) (corners_behind nodes [] (corners_of_type kind)) _ (corners-known nodes [] (corners_of_type kind)) (λ corners g.
+    bind-yields (AllByRecursion (λ v. has_number nodes v ≡ true)) (HasKnown nodes) (corners_after nodes [] (corners_of_type kind)) _ (corners-known nodes [] (corners_of_type kind)) (λ corners g.
     give-yields MshFault (HasKnown nodes) (record { number = n; kind = kind; physical = get_or tags 0 (pos 0); nodes = corners }) g)))))
 
 elements-known : (nodes : List ℕ) → Yields (AreKnown nodes) (elements nodes)
@@ -141,7 +141,7 @@ right-nodes : (parts : Parts) (ns : List Node) → is_some parts.nodes ≡ false
 unfolding AreRight
 right-nodes parts ns fresh right es h = let r = right es h in absurd (true≢false (sym (ap is_some r.1) ∙ fresh))
 
-right-elements : (parts : Parts) (es : List Element) → is_none parts.nodes ≡ false → AreKnown (numbers_on parts place.Node) es → AreRight (record parts { elements = Some es })
+right-elements : (parts : Parts) (es : List Element) → is_none parts.nodes ≡ false → AreKnown (file_numbers parts place.Node) es → AreRight (record parts { elements = Some es })
 unfolding AreRight
 right-elements parts es there good fs h =
     let ns = some-of parts.nodes there in
@@ -154,31 +154,31 @@ with_section-right end line ended parts with Format body fits right h = let r = 
 with_section-right end line ended parts with Names body fits right h = let r = map_ok-ok _ _ with h in right-same parts with (ap (λ (p : Parts). p.nodes) (sym r.2)) (ap (λ (p : Parts). p.elements) (sym r.2)) right
 with_section-right end line ended parts with Nodes body fits right h = let r = map_ok-ok _ _ with h in subst AreRight r.2 (right-nodes parts r.0 (no_causes parts line Nodes fits).1.0 right)
 with_section-right end line ended parts with Elements body fits right h = let r = map_ok-ok _ _ with h in
-    subst AreRight r.2 (right-elements parts r.0 (no_causes parts line Elements fits).1.0 (whole-yields (AreKnown (numbers_on parts place.Node)) BadCount (elements (numbers_on parts place.Node)) (faults_of ended) body r.0 (elements-known (numbers_on parts place.Node)) r.1))
+    subst AreRight r.2 (right-elements parts r.0 (no_causes parts line Elements fits).1.0 (whole-yields (AreKnown (file_numbers parts place.Node)) BadCount (elements (file_numbers parts place.Node)) (faults_of ended) body r.0 (elements-known (file_numbers parts place.Node)) r.1))
 with_section-right end line ended parts with (Data on) body fits right h = let r = map_ok-ok _ _ with h in right-same parts with (ap (λ (p : Parts). p.nodes) (sym r.2)) (ap (λ (p : Parts). p.elements) (sym r.2)) right
 
-begun-right : (end : ℕ) (parts : Parts) (b : Block) (bs : List Block) (k : Option Known) (next : Due × Parts) → AreRight parts → begun end parts b bs k ≡ Ok next → AreRight next.1
+begun-right : (end : ℕ) (parts : Parts) (b : Block) (bs : List Block) (k : Option Known) (next : Expected × Parts) → AreRight parts → begun end parts b bs k ≡ Ok next → AreRight next.1
 begun-right end parts b bs (Some k) next right h =
-    let first = bind-ok (unless (misplaced parts b.line k) parts) (λ before. bind (with_section (ending end bs) (cut_short end b.name bs) before k b.body) (λ with. ok (Closing b.name, with))) next h in
+    let first = bind-ok (unless (misplaced parts b.line k) parts) (λ before. bind (with_section (ending_line end bs) (cut_short end b.name bs) before k b.body) (λ with. ok (Closing b.name, with))) next h in
     let fits = unless-ok (misplaced parts b.line k) parts first.0 first.1 in
-    let second = bind-ok (with_section (ending end bs) (cut_short end b.name bs) first.0 k b.body) (λ with. ok (Closing b.name, with)) next first.2 in
-    subst (λ (n : Due × Parts). AreRight n.1) (ok-same second.2)
-    (with_section-right (ending end bs) b.line (cut_short end b.name bs) parts second.0 k b.body fits.0 right (ap (λ p. with_section (ending end bs) (cut_short end b.name bs) p k b.body) fits.1 ∙ second.1))
+    let second = bind-ok (with_section (ending_line end bs) (cut_short end b.name bs) first.0 k b.body) (λ with. ok (Closing b.name, with)) next first.2 in
+    subst (λ (n : Expected × Parts). AreRight n.1) (ok-same second.2)
+    (with_section-right (ending_line end bs) b.line (cut_short end b.name bs) parts second.0 k b.body fits.0 right (ap (λ p. with_section (ending_line end bs) (cut_short end b.name bs) p k b.body) fits.1 ∙ second.1))
 begun-right end parts b bs None next right h = go (is_wrong_header b.name) h
   where
     go : (t : Bool) → cond t (Err (Header b.line)) (Ok (Skipping b.name, parts)) ≡ ok {E = MshFault} next → AreRight next.1
     go true t = absurd (cc t)
-    go false t = subst (λ (n : Due × Parts). AreRight n.1) (ok-same t) right
+    go false t = subst (λ (n : Expected × Parts). AreRight n.1) (ok-same t) right
 
-step-right : (end : ℕ) (due : Due) (parts : Parts) (b : Block) (bs : List Block) (next : Due × Parts) → AreRight parts → step end due parts b bs ≡ Ok next → AreRight next.1
-unfolding step
+step-right : (end : ℕ) (due : Expected) (parts : Parts) (b : Block) (bs : List Block) (next : Expected × Parts) → AreRight parts → with_block end due parts b bs ≡ Ok next → AreRight next.1
+unfolding with_block
 step-right end Opening parts b bs next right h = begun-right end parts b bs (known b.name) next right h
 step-right end (Closing name) parts b bs next right h = go (closes name b) h
   where
     go : (t : Bool) → cond t (Ok (Opening, parts)) (Err (Unclosed b.line)) ≡ ok {E = MshFault} next → AreRight next.1
-    go true t = subst (λ (n : Due × Parts). AreRight n.1) (ok-same t) right
+    go true t = subst (λ (n : Expected × Parts). AreRight n.1) (ok-same t) right
     go false t = absurd (cc t)
-step-right end (Skipping name) parts b bs next right h = subst (λ (n : Due × Parts). AreRight n.1) (ok-same h) right
+step-right end (Skipping name) parts b bs next right h = subst (λ (n : Expected × Parts). AreRight n.1) (ok-same h) right
 
 content-right : (parts : Parts) → AreRight parts → AreKnown (numbers_of (content_of parts).nodes) (content_of parts).elements
 unfolding AreRight
@@ -188,16 +188,16 @@ content-right parts right = go parts.elements refl
     go None h = tt
     go (Some es) h = let r = right es h in subst (λ (n : Option (List Node)). AreKnown (numbers_of (unwrap_or n [])) es) (sym r.1) r.2
 
-finished-right : (end : ℕ) (due : Due) (parts : Parts) (c : Content) → AreRight parts → finished end due parts ≡ Ok c → AreKnown (numbers_of c.nodes) c.elements
+finished-right : (end : ℕ) (due : Expected) (parts : Parts) (c : Content) → AreRight parts → finished end due parts ≡ Ok c → AreKnown (numbers_of c.nodes) c.elements
 finished-right end Opening parts c right h = subst (λ (d : Content). AreKnown (numbers_of d.nodes) d.elements) (unless-ok (unfinished parts end) (content_of parts) c h).1 (content-right parts right)
 finished-right end (Closing name) parts c right h = absurd (cc h)
 finished-right end (Skipping name) parts c right h = absurd (cc h)
 
-said-right : (end : ℕ) (due : Due) (parts : Parts) (bs : List Block) (c : Content) → AreRight parts → said end due parts bs ≡ Ok c → AreKnown (numbers_of c.nodes) c.elements
+said-right : (end : ℕ) (due : Expected) (parts : Parts) (bs : List Block) (c : Content) → AreRight parts → said end due parts bs ≡ Ok c → AreKnown (numbers_of c.nodes) c.elements
 unfolding said
 said-right end due parts [] c right h = finished-right end due parts c right h
 said-right end due parts (b ∷ bs) c right h =
-    let first = bind-ok (step end due parts b bs) (λ next. said end next.0 next.1 bs) c h in
+    let first = bind-ok (with_block end due parts b bs) (λ next. said end next.0 next.1 bs) c h in
     said-right end first.0.0 first.0.1 bs c (step-right end due parts b bs first.0 right first.1) first.2
 
 -- every corner of an element of a right file is the number of one of its nodes

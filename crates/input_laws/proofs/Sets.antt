@@ -7,8 +7,8 @@ use Rattle.std.proofs.lemmas.Bool.{le-leb, lt-leb, cases_lt, eqb-true, eq-eqb, o
 use Rattle.plain_lists.specs.Lists.{sorted, inserted, same_list, differ_as_sets}
 use Rattle.mesh_defs.specs.Mesh.{Cell}
 use Rattle.input_defs.specs.Content.{Node, Element, Content}
-use Rattle.input_defs.specs.Sections.{has}
-use Rattle.input_defs.specs.Meshes.{dim, is_top, greatest_dim, same_place, kept_behind, kept, vertex_nodes, vertex_of, cell_of, cell_elements}
+use Rattle.input_defs.specs.Sections.{has_number}
+use Rattle.input_defs.specs.Meshes.{dim, is_top, greatest_dim, same_place, kept_after, kept, vertex_nodes, vertex_of, cell_of, cell_elements}
 use Rattle.mesh_laws.proofs.Places.{all_both, all_weaker, all_filter, any_map}
 use Rattle.input_laws.specs.Sublists.{differ_in_place}
 use Rattle.input_laws.proofs.Kept.{same_list-refl, all_passing, cells-differ}
@@ -107,7 +107,7 @@ is-vertex test (n ∷ ns) v f h = go (n.number == v) (test n) refl refl (is-vert
 
 -- every corner is the number of a node
 abbrev pub AreKnown : List ℕ → List Element → Type 0
-AreKnown known es = AllByRecursion (λ (e : Element). AllByRecursion (λ v. has known v ≡ true) e.nodes) es
+AreKnown known es = AllByRecursion (λ (e : Element). AllByRecursion (λ v. has_number known v ≡ true) e.nodes) es
 
 abbrev pub numbers_of : List Node → List ℕ
 numbers_of ns = map (λ (node : Node). node.number) ns
@@ -121,11 +121,11 @@ unfolding IsIn
 all-in [] = tt
 all-in (e ∷ es) = (λ q h. or_left (q e) (list_any q es) h, all_weaker (IsIn es) (IsIn (e ∷ es)) (λ f i q h. or_right (q e) (list_any q es) (i q h)) es (all-in es))
 
-all-kept : (P : Element → Type 0) (earlier es : List Element) → AllByRecursion P es → AllByRecursion P (kept_behind earlier es)
+all-kept : (P : Element → Type 0) (earlier es : List Element) → AllByRecursion P es → AllByRecursion P (kept_after earlier es)
 all-kept P earlier [] all = tt
 all-kept P earlier (e ∷ es) all = go (list_any (same_place e) earlier) (all-kept P earlier es all.1) (all-kept P (e ∷ earlier) es all.1)
   where
-    go : (b : Bool) → AllByRecursion P (kept_behind earlier es) → AllByRecursion P (kept_behind (e ∷ earlier) es) → AllByRecursion P (cond b (kept_behind earlier es) (e ∷ kept_behind (e ∷ earlier) es))
+    go : (b : Bool) → AllByRecursion P (kept_after earlier es) → AllByRecursion P (kept_after (e ∷ earlier) es) → AllByRecursion P (cond b (kept_after earlier es) (e ∷ kept_after (e ∷ earlier) es))
     go true r s = r
     go false r s = (all.0, s)
 
@@ -133,21 +133,21 @@ all-kept P earlier (e ∷ es) all = go (list_any (same_place e) earlier) (all-ke
 GoesBack : Content → Element → Type 0
 GoesBack c e = AllByRecursion (λ v. number_at (vertex_nodes c) (vertex_of (vertex_nodes c) v) ≡ v) e.nodes
 
-has-self : (vs : List ℕ) → AllByRecursion (λ v. has vs v ≡ true) vs
+has-self : (vs : List ℕ) → AllByRecursion (λ v. has_number vs v ≡ true) vs
 has-self [] = tt
-has-self (v ∷ vs) = (or_left (v == v) (has vs v) (eq-eqb v v refl), all_weaker (λ w. has vs w ≡ true) (λ w. has (v ∷ vs) w ≡ true) (λ w h. or_right (v == w) (has vs w) h) vs (has-self vs))
+has-self (v ∷ vs) = (or_left (v == v) (has_number vs v) (eq-eqb v v refl), all_weaker (λ w. has_number vs w ≡ true) (λ w. has_number (v ∷ vs) w ≡ true) (λ w h. or_right (v == w) (has_number vs w) h) vs (has-self vs))
 
-goes_back : (c : Content) (e : Element) → IsIn c.elements e → AllByRecursion (λ v. has (numbers_of c.nodes) v ≡ true) e.nodes → is_top c e ≡ true → GoesBack c e
+goes_back : (c : Content) (e : Element) → IsIn c.elements e → AllByRecursion (λ v. has_number (numbers_of c.nodes) v ≡ true) e.nodes → is_top c e ≡ true → GoesBack c e
 unfolding GoesBack IsIn vertex_nodes
-goes_back c e among known top = all_both (λ v. has (numbers_of c.nodes) v ≡ true) (λ v. has e.nodes v ≡ true) (λ v. number_at (vertex_nodes c) (vertex_of (vertex_nodes c) v) ≡ v) back e.nodes known (has-self e.nodes)
+goes_back c e among known top = all_both (λ v. has_number (numbers_of c.nodes) v ≡ true) (λ v. has_number e.nodes v ≡ true) (λ v. number_at (vertex_nodes c) (vertex_of (vertex_nodes c) v) ≡ v) back e.nodes known (has-self e.nodes)
   where
     test : Node → Bool
-    test n = list_any (λ f. is_top c f && has f.nodes n.number) c.elements
+    test n = list_any (λ f. is_top c f && has_number f.nodes n.number) c.elements
 
-    used : (v : ℕ) → has e.nodes v ≡ true → (n : Node) → n.number ≡ v → test n ≡ true
-    used v h n same = among (λ f. is_top c f && has f.nodes n.number) (ap₂ (λ a b. a && b) top (ap (has e.nodes) same ∙ h))
+    used : (v : ℕ) → has_number e.nodes v ≡ true → (n : Node) → n.number ≡ v → test n ≡ true
+    used v h n same = among (λ f. is_top c f && has_number f.nodes n.number) (ap₂ (λ a b. a && b) top (ap (has_number e.nodes) same ∙ h))
 
-    back : (v : ℕ) → has (numbers_of c.nodes) v ≡ true → has e.nodes v ≡ true → number_at (filter test c.nodes) (vertex_of (filter test c.nodes) v) ≡ v
+    back : (v : ℕ) → has_number (numbers_of c.nodes) v ≡ true → has_number e.nodes v ≡ true → number_at (filter test c.nodes) (vertex_of (filter test c.nodes) v) ≡ v
     back v h g = position-back (filter test c.nodes) v (is-vertex test c.nodes v (used v g) (sym (any_map (λ m. m == v) (λ (n : Node). n.number) c.nodes) ∙ h))
 
 -- what a cell's element has
@@ -157,10 +157,10 @@ IsCell c e = (dim e ≡ greatest_dim c) × GoesBack c e
 all-cells : (c : Content) → AreKnown (numbers_of c.nodes) c.elements → AllByRecursion (IsCell c) (cell_elements c)
 unfolding IsCell cell_elements kept
 all-cells c known =
-    all_both (λ e. is_top c e ≡ true) (λ e. is_top c e ≡ true → GoesBack c e) (IsCell c) (λ e top back. (eqb-true (dim e) (greatest_dim c) top, back top)) (filter (is_top c) (kept_behind [] c.elements))
-    (all_passing (is_top c) (kept_behind [] c.elements))
-    (all_filter (λ e. is_top c e ≡ true → GoesBack c e) (is_top c) (kept_behind [] c.elements) (all-kept (λ e. is_top c e ≡ true → GoesBack c e) [] c.elements
-    (all_both (IsIn c.elements) (λ (e : Element). AllByRecursion (λ v. has (numbers_of c.nodes) v ≡ true) e.nodes) (λ e. is_top c e ≡ true → GoesBack c e) (goes_back c) c.elements (all-in c.elements) known)))
+    all_both (λ e. is_top c e ≡ true) (λ e. is_top c e ≡ true → GoesBack c e) (IsCell c) (λ e top back. (eqb-true (dim e) (greatest_dim c) top, back top)) (filter (is_top c) (kept_after [] c.elements))
+    (all_passing (is_top c) (kept_after [] c.elements))
+    (all_filter (λ e. is_top c e ≡ true → GoesBack c e) (is_top c) (kept_after [] c.elements) (all-kept (λ e. is_top c e ≡ true → GoesBack c e) [] c.elements
+    (all_both (IsIn c.elements) (λ (e : Element). AllByRecursion (λ v. has_number (numbers_of c.nodes) v ≡ true) e.nodes) (λ e. is_top c e ≡ true → GoesBack c e) (goes_back c) c.elements (all-in c.elements) known)))
 
 -- ---- sets of vertices
 

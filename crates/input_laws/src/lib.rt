@@ -13,7 +13,7 @@ ghost use Rattle.input_defs.specs.Content.{Element, Content};
 ghost use Rattle.input_defs.specs.declared.MshFault.{MshFault};
 ghost use Rattle.input_defs.specs.Files.{content};
 ghost use Rattle.input_defs.specs.Further.{full_text};
-ghost use Rattle.input_defs.specs.Meshes.{accepted, cell_elements, cell_of, vertex_nodes, dim, same_place, is_point};
+ghost use Rattle.input_defs.specs.Meshes.{accepted, cell_elements, cell_of, vertex_nodes, dim, same_place, is_point_of};
 ghost use Rattle.input_defs.specs.Plans.{Plan, Spread, Part, plan_of, misfit, rank_by};
 ghost use Rattle.input_laws.specs.FaultLines.{line_of};
 ghost use Rattle.input_laws.specs.Sublists.{IsSublist, differ_in_place};
@@ -25,7 +25,7 @@ pub fn rank_is_below_ranks()
 
 /// Every label value is on a point of the mesh.
 pub fn labels_are_on_points()
-    ensures { (c : Content) (m : Mesh) → accepted c ≡ Ok m → AllByRecursion (λ (mark : Mark). is_point m.cells (record { dim = mark.dim; vertices = sorted mark.vertices }) ≡ true) m.marks }
+    ensures { (c : Content) (m : Mesh) → accepted c ≡ Ok m → AllByRecursion (λ (mark : Mark). is_point_of m.cells (record { dim = mark.dim; vertices = sorted mark.vertices }) ≡ true) m.marks }
 {}
 
 /// The cells of a mesh are elements of its dimension in file order, each the first one on its nodes, and no two on the same nodes.

@@ -12,8 +12,8 @@ use Rattle.mesh_defs.specs.Diagram.{Covering, Diagram}
 abbrev pub point_in : Diagram → ℕ → Covering
 point_in x p = get_or x.points p (record { poly = Vertex; covers = [] })
 
-abbrev entry : ℕ → ℤ → ConeEntry
-entry p o = record { point = p; o = o }
+abbrev cone_entry : ℕ → ℤ → ConeEntry
+cone_entry p o = record { point = p; o = o }
 
 -- one of these entries is of this point
 abbrev pub covers : List ConeEntry → ℕ → Bool
@@ -41,7 +41,7 @@ pub record IsArranged (x : Diagram) (lists : List (List ℕ)) : Type 0 where
   pub different : (p i j : ℕ) → p < length x.points → i < j → j < length (list_of lists p) → get_or (list_of lists p) i 0 ≢ get_or (list_of lists p) j 0
   pub cones : (p : ℕ) → p < length x.points → length (point_in x p).covers ≡ length (facets_of (point_in x p).poly)
   pub entries : (p k : ℕ) → p < length x.points → k < length (point_in x p).covers
-      → let e = get_or (point_in x p).covers k (entry 0 (pos 0)) in
+      → let e = get_or (point_in x p).covers k (cone_entry 0 (pos 0)) in
       act (point_in x e.point).poly e.o (list_of lists e.point) ≡ picked (list_of lists p) (facet_at (point_in x p).poly k).corners
 
 -- ---- closure and star
@@ -53,7 +53,7 @@ same_set xs ys = same_list (sorted xs) (sorted ys)
 -- what covers a facet: the point of the cone on the facet's vertices, under the orientation that carries its list onto the facet
 abbrev seen_at : Diagram → List (List ℕ) → List ConeEntry → List ℕ → Option ConeEntry
 seen_at x lists cone facet =
-    option_and_then (λ (c : ConeEntry). option_map (entry c.point) (relative (point_in x c.point).poly (list_of lists c.point) facet)) (find (λ (c : ConeEntry). same_set (list_of lists c.point) facet) cone)
+    option_and_then (λ (c : ConeEntry). option_map (cone_entry c.point) (relative (point_in x c.point).poly (list_of lists c.point) facet)) (find (λ (c : ConeEntry). same_set (list_of lists c.point) facet) cone)
 
 -- what an entry of one level adds to the next: its facets, in order
 abbrev facets_under : Diagram → List (List ℕ) → ConeEntry → List ConeEntry
@@ -64,7 +64,7 @@ abbrev new_points : List ConeEntry → List ConeEntry → List ConeEntry
 new_points there [] = []
 new_points there (e ∷ es) = if covers there e.point then new_points there es else e ∷ new_points (e ∷ there) es
 
--- the closure after n more levels, behind what is there; the last level is given once more
+-- the closure after n more levels, added to what is there; the last level is given once more
 abbrev levels : Diagram → List (List ℕ) → ℕ → List ConeEntry → List ConeEntry → List ConeEntry
 levels x lists zero there last = there
 levels x lists (suc n) there last = let next = new_points there (flat_map (facets_under x lists) last) in levels x lists n (there ++ next) next
@@ -72,7 +72,7 @@ levels x lists (suc n) there last = let next = new_points there (flat_map (facet
 -- The closure of a point under an orientation: the point, and level by level the facets of what the last level added.
 -- A point has as many levels below it as dimensions.
 unfoldable pub closure : Diagram → List (List ℕ) → ℕ → ℤ → List ConeEntry
-closure x lists p o = levels x lists (dim_of (point_in x p).poly) (entry p o ∷ []) (entry p o ∷ [])
+closure x lists p o = levels x lists (dim_of (point_in x p).poly) (cone_entry p o ∷ []) (cone_entry p o ∷ [])
 
 -- the points whose closure has p, rising
 unfoldable pub star : Diagram → List (List ℕ) → ℕ → List ℕ

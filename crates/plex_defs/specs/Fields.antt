@@ -9,7 +9,7 @@ use Rattle.mesh_defs.specs.Points.{Point, Sight, point_of, contains}
 
 -- ---- sections: how many words each point has
 
--- where the words of point p begin: behind those of the points before it
+-- where the words of point p begin: after those of the points before it
 abbrev pub offset : List ℕ → ℕ → ℕ
 offset dofs p = sum (take p dofs)
 

@@ -14,8 +14,8 @@ abbrev comes_before : ℕ × ℤ → ℕ × ℤ → Bool
 comes_before a b = nat_lt a.0 b.0 || ((a.0 == b.0) && int_lt a.1 b.1)
 
 -- the point has the value
-abbrev pub has : List (ℕ × ℤ) → ℕ × ℤ → Bool
-has label pair = list_any (same_pair pair) label
+abbrev pub has_pair : List (ℕ × ℤ) → ℕ × ℤ → Bool
+has_pair label pair = list_any (same_pair pair) label
 
 -- the label with one more pair, or as it is where the pair is there
 abbrev pub with_pair : List (ℕ × ℤ) → ℕ × ℤ → List (ℕ × ℤ)

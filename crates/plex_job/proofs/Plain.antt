@@ -11,7 +11,7 @@ use Rattle.mesh_defs.specs.Points.{Sight, vertex_sight}
 use Rattle.mesh_defs.specs.Diagram.{Diagram, chart, cone, place_in, diagram, count_in}
 use Rattle.input_defs.specs.Content.{Content}
 use Rattle.triangle_defs.specs.Triangles.{triangle_mesh}
-use Rattle.text_defs.specs.Text.{alone, number_of, mesh_line, ranks_line, step_line, rank_line, total_line, point_line, head_text, rank_text, total_text, point_text, points_text, step_text, end_line, plain_text}
+use Rattle.text_defs.specs.Text.{alone, number_of, mesh_line, ranks_line, step_line, rank_line, total_line, point_line, head_text, rank_text, total_text, point_text, points_text, plain_step_text, end_line, plain_text}
 use Rattle.plex_base.specs.declared.key.PointKey.{PointKey}
 use Rattle.plex_chart.specs.Chart.{point_at, no_point}
 use Rattle.plex_serial.specs.Keys.{key_at, Draws}
@@ -137,7 +137,7 @@ module _ (m : Mesh) (is : IsTriangleMesh m) (g : Diagram) (keys : List PointKey)
       λ i. mesh_line ((sym dim-drawn) i) (cells i) (vertices i) ((sym d.same_unused) i) (loose i) (merged i) ++ ranks_line 1
 
   text-drawn : m.loose ≡ 0 → m.merged ≡ 0 → drawn_text g keys at unused ≡ plain_text m
-  unfolding drawn_text drawn_head plain_text step_text
+  unfolding drawn_text drawn_head plain_text plain_step_text
   text-drawn loose merged =
       sym ((λ i. head-drawn loose merged i ++ (step_line 0 ++ (rank-drawn i ++ []) ++ total-drawn i ++ points-drawn i) ++ end_line)
       ∙ regroup (mesh_line g.dim g.cells g.vertices unused 0 0) (ranks_line 1) (step_line 0) (rank_line 0 g.cells (length g.points) (length g.points) 0)

@@ -20,7 +20,7 @@ use Rattle.plex_defs.specs.Labels.{mesh_label}
 use Rattle.plex_defs.specs.Fields.{fields}
 use Rattle.rank_defs.specs.Ranks.{assigned, layer, held_cells, held, ranks_at, owner, is_shared, owned, own_key}
 use Rattle.rank_defs.specs.Spread.{charts, point_forest, migration_forest, trace, LocalMesh, local_mesh, plain_dist, scatter_part, plain_scatter, own_chart, shared_part, plain_shared}
-use Rattle.rank_defs.specs.Home.{by_vertices, shared_points, home_points, home_words, home_asks, number_asks, bases_of, number}
+use Rattle.rank_defs.specs.Home.{by_vertices, shared_points, home_points, home_words, home_asks, number_asks, bases_of, point_number}
 use Rattle.plex_defs.proofs.Meshes.{two_triangles, two_triangles_at, twisted_hexahedra, three_triangles}
 
 abbrev at : ℕ → ℤ → ConeEntry
@@ -131,9 +131,9 @@ numbers_with_the_key_from_the_other_rank : numbers two_triangles (1 ∷ 0 ∷ []
 unfolding sorted sights_of contains stratum strata chart assigned held_cells held ranks_at owner owned number_asks scripted printed_order stands_before fetched_before step
 numbers_with_the_key_from_the_other_rank = refl
 
--- the owned points of the ranks one behind the other, with their numbers under these bases, their keys, and their cones by number
+-- the owned points of the ranks one after the other, with their numbers under these bases, their keys, and their cones by number
 abbrev numbered : Mesh → List ℕ → List ℕ → List ℕ → List (ℕ × (ℕ × List ConeEntry))
-numbered m a ranks bases = flat_map (λ r. map (λ s. (number m a bases (point_of s), (s.key, cone m (number m a bases) s))) (owned m a r)) ranks
+numbered m a ranks bases = flat_map (λ r. map (λ s. (point_number m a bases (point_of s), (s.key, cone m (point_number m a bases) s))) (owned m a r)) ranks
 
 points_with_the_key_from_the_other_rank : numbered two_triangles (1 ∷ 0 ∷ []) (0 ∷ 1 ∷ []) (bases_of (numbers two_triangles (1 ∷ 0 ∷ []) 2))
     ≡ (0, (64, at 5 (pos 0) ∷ at 6 (pos 0) ∷ at 4 (negsuc 0) ∷ []))
@@ -147,7 +147,7 @@ points_with_the_key_from_the_other_rank : numbered two_triangles (1 ∷ 0 ∷ []
     ∷ (8, (0, []))
     ∷ (9, (8, at 8 (pos 0) ∷ at 1 (pos 0) ∷ []))
     ∷ (10, (10, at 2 (pos 0) ∷ at 8 (pos 0) ∷ [])) ∷ []
-unfolding sorted rotations reflections orientations corners_under act relative sights_of first_sight key arrangement contains stratum strata chart seen_under entry cone assigned held_cells held ranks_at owner owned number number_asks scripted printed_order stands_before fetched_before step
+unfolding sorted rotations reflections orientations corners_under act relative sights_of first_sight key arrangement contains stratum strata chart seen_under entry cone assigned held_cells held ranks_at owner owned point_number number_asks scripted printed_order stands_before fetched_before step
 points_with_the_key_from_the_other_rank = refl
 
 forest_with_the_key_from_the_other_rank : point_forest two_triangles (1 ∷ 0 ∷ []) (charts two_triangles (1 ∷ 0 ∷ []) 2 0)

@@ -88,7 +88,7 @@ strip_traces_in_blocks : map (λ r. map (trace strip block 4) (map point_of (own
 unfolding sorted sights_of contains stratum strata chart assigned layer held_cells held ranks_at owner owned charts trace
 strip_traces_in_blocks = refl
 
--- in stripes, behind two layers or not, leaf i of a rank in the forest of the redistribution has as root the trace of the rank's owned point i
+-- in stripes, after two layers or not, leaf i of a rank in the forest of the redistribution has as root the trace of the rank's owned point i
 strip_traces_in_stripes : map (map root_at) (migration_forest strip block stripe 4).leaves ≡ map (λ r. map (trace strip block 4) (map point_of (owned strip stripe r))) (below 4)
 unfolding sorted sights_of contains stratum strata chart assigned layer held_cells held ranks_at owner owned charts trace migration_forest
 strip_traces_in_stripes = refl

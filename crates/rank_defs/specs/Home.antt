@@ -77,5 +77,5 @@ bases_of r = map (λ got. slice_index got 0) r.got
 
 -- The number of a point under the bases that the ranks drew: the base of its owner, and its place among the points that
 -- its owner owns.
-unfoldable pub number : Mesh → List ℕ → List ℕ → Point → ℕ
-number m a bases p = slice_index bases (owner m a p) + place_in (owned m a (owner m a p)) p
+unfoldable pub point_number : Mesh → List ℕ → List ℕ → Point → ℕ
+point_number m a bases p = slice_index bases (owner m a p) + place_in (owned m a (owner m a p)) p

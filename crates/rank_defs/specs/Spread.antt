@@ -78,8 +78,8 @@ pub record PlainDist : Type 0 where
 abbrev pub vertices_among : List Sight → List ℕ
 vertices_among points = map (λ (s : Sight). s.key) (filter (λ s. dim_of s.poly == 0) points)
 
-abbrev pub coordinates : Mesh → List ℕ → List (List ℤ)
-coordinates m vertices = map (λ v. get_or m.at v []) vertices
+abbrev pub coordinates_of : Mesh → List ℕ → List (List ℤ)
+coordinates_of m vertices = map (λ v. get_or m.at v []) vertices
 
 abbrev pub labels : Mesh → List Sight → List (List (ℕ × ℤ))
 labels m points = map (λ dim. mesh_label m dim points) (below 4)
@@ -94,7 +94,7 @@ local_mesh m dofs a cells =
       owners = map (λ s. owner m a (point_of s)) points;
       labels = labels m points;
       fields = fields m dofs points;
-      at = coordinates m (vertices_among points);
+      at = coordinates_of m (vertices_among points);
     }
 
 -- the distribution of a mesh over n ranks by an assignment, with k layers of overlap
@@ -127,9 +127,9 @@ pub record PlainScatter : Type 0 where
   pub parts : List ScatterPart
 
 -- what a data section is on: vertices or cells
-abbrev pub numbers_on : Place → List (ℕ × Cell) → List ℕ → List ℕ
-numbers_on Node cells vertices = vertices
-numbers_on Element cells vertices = map (λ (c : ℕ × Cell). c.0) cells
+abbrev pub section_numbers : Place → List (ℕ × Cell) → List ℕ → List ℕ
+section_numbers Node cells vertices = vertices
+section_numbers Element cells vertices = map (λ (c : ℕ × Cell). c.0) cells
 
 -- what a rank is given that holds these cells
 unfoldable pub scatter_part : Mesh → List ℕ → List (ℕ × Cell) → ScatterPart
@@ -140,9 +140,9 @@ scatter_part m a cells =
       cells = cells;
       vertices = vertices;
       owners = map (λ s. owner m a (point_of s)) (filter (λ s. dim_of s.poly == 0) points);
-      at = coordinates m vertices;
+      at = coordinates_of m vertices;
       marks = filter (λ k. list_any (shows (marked_point k)) points) m.marks;
-      rows = map (λ (f : Section). map (row_values f) (numbers_on f.on cells vertices)) m.fields;
+      rows = map (λ (f : Section). map (row_values f) (section_numbers f.on cells vertices)) m.fields;
     }
 
 -- the cells and vertices of a mesh, given to n ranks by an assignment
@@ -180,7 +180,7 @@ unfoldable pub shared_part : Mesh → List (List ℕ) → List (ℕ × Cell) →
 shared_part m dofs cells points = record {
   cells = cells;
   vertices = vertices_among points;
-  at = coordinates m (vertices_among points);
+  at = coordinates_of m (vertices_among points);
   sets = map (λ s. (point_of s).vertices) points;
   labels = labels m points;
   fields = fields m dofs points;

@@ -71,7 +71,7 @@ get_or-image g e [] k = sym e
 get_or-image g e (xs ∷ xss) zero = refl
 get_or-image g e (xs ∷ xss) (suc k) = get_or-image g e xss k
 
--- what is looked up behind two forests
+-- what is looked up in two forests, one after the other
 abbrev pub then_root : Forest → Option (ℕ × ℕ) → Option (ℕ × ℕ)
 then_root a o = option_and_then (λ (r : ℕ × ℕ). root_of a r.0 r.1) o
 

@@ -10,7 +10,7 @@ use Rattle.mesh_laws.proofs.Places.{all_both, each_fails, all_append_first, all_
 use Rattle.mesh_laws.proofs.Turns.{find-passes}
 use Rattle.mesh_laws.proofs.Containing.{below-all, eqb-sym}
 use Rattle.sf_defs.specs.declared.Leaf.{Leaf}
-use Rattle.sf_defs.specs.Forest.{Forest, leaf, root_at, leaves_on, roots_on, root_of, MeansSame, or_else, first_some, has_root, IsForest, is_on, degree, all_roots, shared_root, leaf_of, FitsLocals, invert}
+use Rattle.sf_defs.specs.Forest.{Forest, leaf, root_at, leaves_on, roots_on, root_of, MeansSame, or_else, first_some, has_root, IsForest, is_on_root, degree, all_roots, shared_root, leaf_of, FitsLocals, invert}
 use Rattle.rank_laws.proofs.Lists.{find-cases, find-has}
 use Rattle.rank_laws.proofs.Lists.{image-at}
 use Rattle.rank_laws.proofs.Forests.{is_local, locals_differ, sound}
@@ -53,26 +53,26 @@ first-there {X} {Y} h past n (xs ∷ xss) k y e = go (h (n, xs)) refl k e (first
 
 -- what a rank has on a root
 abbrev pub leaf_on : ℕ × ℕ → ℕ × List Leaf → Option (ℕ × ℕ)
-leaf_on root r = option_map (λ (l : Leaf). (r.0, l.local)) (find (is_on root) r.1)
+leaf_on root r = option_map (λ (l : Leaf). (r.0, l.local)) (find (is_on_root root) r.1)
 
 -- a leaf on a root has it as its root
-on-root : (root : ℕ × ℕ) (l : Leaf) → is_on root l ≡ true → root_at l ≡ root
+on-root : (root : ℕ × ℕ) (l : Leaf) → is_on_root root l ≡ true → root_at l ≡ root
 on-root root l h = let both = and_parts (l.rank == root.0) (l.index == root.1) h in let r = eqb-true l.rank root.0 both.0 in let i = eqb-true l.index root.1 both.1 in λ j. (r j, i j)
 
-root-on : (root : ℕ × ℕ) (l : Leaf) → root_at l ≡ root → is_on root l ≡ true
+root-on : (root : ℕ × ℕ) (l : Leaf) → root_at l ≡ root → is_on_root root l ≡ true
 root-on root l h = rw (eq-eqb l.rank root.0 (ap (λ (x : ℕ × ℕ). x.0) h), eq-eqb l.index root.1 (ap (λ (x : ℕ × ℕ). x.1) h))
 
 -- the leaf that is found on a root looks the root up
 pub leaf-looks_up : (f : Forest) → ((rank : ℕ) → Findable (leaves_on f rank) (leaves_on f rank)) → (rank index : ℕ) (x : ℕ × ℕ) → leaf_of f rank index ≡ Some x → root_of f x.0 x.1 ≡ Some (rank, index)
 unfolding leaf_of root_of
-leaf-looks_up f found rank index x e = let (k, h) = first-at (leaf_on (rank, index)) 0 f.leaves x e in go k (find (is_on (rank, index)) (leaves_on f k)) refl h
+leaf-looks_up f found rank index x e = let (k, h) = first-at (leaf_on (rank, index)) 0 f.leaves x e in go k (find (is_on_root (rank, index)) (leaves_on f k)) refl h
   where
-    go : (k : ℕ) (o : Option Leaf) → find (is_on (rank, index)) (leaves_on f k) ≡ o → option_map (λ (l : Leaf). (0 + k, l.local)) o ≡ Some x → option_map root_at (find (is_local x.1) (leaves_on f x.0)) ≡ Some (rank, index)
+    go : (k : ℕ) (o : Option Leaf) → find (is_on_root (rank, index)) (leaves_on f k) ≡ o → option_map (λ (l : Leaf). (0 + k, l.local)) o ≡ Some x → option_map root_at (find (is_local x.1) (leaves_on f x.0)) ≡ Some (rank, index)
     go k None g h = absurd (cc h)
     go k (Some l) g h =
         let is : (k, l.local) ≡ x = (let zero_less : k ≡ 0 + k = omega arith in let same : (0 + k, l.local) ≡ x = cc h in (λ i. (zero_less i, l.local)) ∙ same) in
         subst (λ (y : ℕ × ℕ). option_map root_at (find (is_local y.1) (leaves_on f y.0)) ≡ Some (rank, index)) is
-        (find-has (λ (y : Leaf). option_map root_at (find (is_local y.local) (leaves_on f k)) ≡ Some (root_at y)) (is_on (rank, index)) (leaves_on f k) l (found k) g ∙ ap Some (on-root (rank, index) l (find-passes (is_on (rank, index)) (leaves_on f k) l g)))
+        (find-has (λ (y : Leaf). option_map root_at (find (is_local y.local) (leaves_on f k)) ≡ Some (root_at y)) (is_on_root (rank, index)) (leaves_on f k) l (found k) g ∙ ap Some (on-root (rank, index) l (find-passes (is_on_root (rank, index)) (leaves_on f k) l g)))
 
 -- where a leaf looks a root up, some leaf is found on the root
 pub leaf-there : (f : Forest) (rank local : ℕ) (root : ℕ × ℕ) → root_of f rank local ≡ Some root → (x : ℕ × ℕ) × (leaf_of f root.0 root.1 ≡ Some x)
@@ -82,9 +82,9 @@ leaf-there f rank local root e = go (find (is_local local) (leaves_on f rank)) r
     h : ℕ × List Leaf → Option (ℕ × ℕ)
     h = leaf_on root
 
-    some : (l : Leaf) → find (is_local local) (leaves_on f rank) ≡ Some l → is_on root l ≡ true → (y : ℕ × ℕ) × (h (0 + rank, leaves_on f rank) ≡ Some y)
-    some l g p = ⊎_elim (λ (w : (x : Leaf) × (find (is_on root) (leaves_on f rank) ≡ Some x)). ((0 + rank, w.0.local), ap (option_map (λ (x : Leaf). (0 + rank, x.local))) w.1))
-        (λ n. absurd (both_ways (is_on root l) (find-has (λ x. is_on root x ≡ false) (is_local local) (leaves_on f rank) l (each_fails (is_on root) (leaves_on f rank) n) g) p)) (find-cases (is_on root) (leaves_on f rank))
+    some : (l : Leaf) → find (is_local local) (leaves_on f rank) ≡ Some l → is_on_root root l ≡ true → (y : ℕ × ℕ) × (h (0 + rank, leaves_on f rank) ≡ Some y)
+    some l g p = ⊎_elim (λ (w : (x : Leaf) × (find (is_on_root root) (leaves_on f rank) ≡ Some x)). ((0 + rank, w.0.local), ap (option_map (λ (x : Leaf). (0 + rank, x.local))) w.1))
+        (λ n. absurd (both_ways (is_on_root root l) (find-has (λ x. is_on_root root x ≡ false) (is_local local) (leaves_on f rank) l (each_fails (is_on_root root) (leaves_on f rank) n) g) p)) (find-cases (is_on_root root) (leaves_on f rank))
 
     go : (o : Option Leaf) → find (is_local local) (leaves_on f rank) ≡ o → option_map root_at o ≡ Some root → (x : ℕ × ℕ) × (first_some h (enumerate_from 0 f.leaves) ≡ Some x)
     go None g x = absurd (cc x)
@@ -125,26 +125,26 @@ counted-there p q (xs ∷ xss) zero e h t = let here = counted p q xs e h t in o
 counted-there p q (xs ∷ xss) (suc k) e h t = let there = counted-there p q xss k e h t in omega (arith, sum_by-cons (count_by p) xs xss)
 
 -- where at most one leaf is on a root, the first one is each one
-first-unique : (root : ℕ × ℕ) (n : ℕ) (xss : List (List Leaf)) (x : ℕ × ℕ) → sum_by (count_by (is_on root)) xss ≤ 1 → first_some (leaf_on root) (enumerate_from n xss) ≡ Some x
-    → (k local : ℕ) (e : Leaf) → find (is_local local) (get_or xss k []) ≡ Some e → is_on root e ≡ true → x ≡ (n + k, local)
+first-unique : (root : ℕ × ℕ) (n : ℕ) (xss : List (List Leaf)) (x : ℕ × ℕ) → sum_by (count_by (is_on_root root)) xss ≤ 1 → first_some (leaf_on root) (enumerate_from n xss) ≡ Some x
+    → (k local : ℕ) (e : Leaf) → find (is_local local) (get_or xss k []) ≡ Some e → is_on_root root e ≡ true → x ≡ (n + k, local)
 first-unique root n [] x c h k local e f t = absurd (cc f)
-first-unique root n (xs ∷ xss) x c h k local e f t = go (find (is_on root) xs) refl k h f (first-unique root (n + 1) xss x)
+first-unique root n (xs ∷ xss) x c h k local e f t = go (find (is_on_root root) xs) refl k h f (first-unique root (n + 1) xss x)
   where
-    sum : sum_by (count_by (is_on root)) (xs ∷ xss) ≡ count_by (is_on root) xs + sum_by (count_by (is_on root)) xss
-    sum = sum_by-cons (count_by (is_on root)) xs xss
+    sum : sum_by (count_by (is_on_root root)) (xs ∷ xss) ≡ count_by (is_on_root root) xs + sum_by (count_by (is_on_root root)) xss
+    sum = sum_by-cons (count_by (is_on_root root)) xs xss
 
-    go : (o : Option Leaf) → find (is_on root) xs ≡ o → (j : ℕ) → or_else (option_map (λ (l : Leaf). (n, l.local)) o) (first_some (leaf_on root) (enumerate_from (n + 1) xss)) ≡ Some x → find (is_local local) (get_or (xs ∷ xss) j []) ≡ Some e
-        → (sum_by (count_by (is_on root)) xss ≤ 1 → first_some (leaf_on root) (enumerate_from (n + 1) xss) ≡ Some x → (i l : ℕ) (d : Leaf) → find (is_local l) (get_or xss i []) ≡ Some d → is_on root d ≡ true → x ≡ (n + 1 + i, l))
+    go : (o : Option Leaf) → find (is_on_root root) xs ≡ o → (j : ℕ) → or_else (option_map (λ (l : Leaf). (n, l.local)) o) (first_some (leaf_on root) (enumerate_from (n + 1) xss)) ≡ Some x → find (is_local local) (get_or (xs ∷ xss) j []) ≡ Some e
+        → (sum_by (count_by (is_on_root root)) xss ≤ 1 → first_some (leaf_on root) (enumerate_from (n + 1) xss) ≡ Some x → (i l : ℕ) (d : Leaf) → find (is_local l) (get_or xss i []) ≡ Some d → is_on_root root d ≡ true → x ≡ (n + 1 + i, l))
         → x ≡ (n + j, local)
     go (Some d) g zero h' f' r =
-        let same : d ≡ e = only-one (is_on root) (is_local local) xs d e (omega (arith, sum)) g f' t in
+        let same : d ≡ e = only-one (is_on_root root) (is_local local) xs d e (omega (arith, sum)) g f' t in
         let l : d.local ≡ local = ap (λ (y : Leaf). y.local) same ∙ eqb-true e.local local (find-passes (is_local local) xs e f') in
         let is : (n, d.local) ≡ x = cc h' in
         let there : n ≡ n + 0 = omega arith in
         sym is ∙ (λ i. (there i, l i))
-    go (Some d) g (suc j) h' f' r = let here = counted (is_on root) (is_on root) xs d g (find-passes (is_on root) xs d g) in let there = counted-there (is_on root) (is_local local) xss j e f' t in absurd (omega (arith, sum))
-    go None g zero h' f' r = ⊎_elim (λ (w : (y : Leaf) × (find (is_on root) xs ≡ Some y)). absurd (cc (sym g ∙ w.1)))
-        (λ none. absurd (both_ways (is_on root e) (find-has (λ y. is_on root y ≡ false) (is_local local) xs e (each_fails (is_on root) xs none) f') t)) (find-cases (is_on root) xs)
+    go (Some d) g (suc j) h' f' r = let here = counted (is_on_root root) (is_on_root root) xs d g (find-passes (is_on_root root) xs d g) in let there = counted-there (is_on_root root) (is_local local) xss j e f' t in absurd (omega (arith, sum))
+    go None g zero h' f' r = ⊎_elim (λ (w : (y : Leaf) × (find (is_on_root root) xs ≡ Some y)). absurd (cc (sym g ∙ w.1)))
+        (λ none. absurd (both_ways (is_on_root root e) (find-has (λ y. is_on_root root y ≡ false) (is_local local) xs e (each_fails (is_on_root root) xs none) f') t)) (find-cases (is_on_root root) xs)
     go None g (suc j) h' f' r = let there : n + 1 + j ≡ n + suc j = omega arith in r (omega (arith, sum)) h' j local e f' t ∙ (λ i. (there i, local))
 
 -- what all numbers below n have

@@ -7,13 +7,13 @@ use Rattle.plain_lists.specs.Lists.{below}
 use Rattle.mesh_laws.proofs.Places.{all_enumerated, none_passes, all_both, all_weaker, all_from, all_map, all_filter, each_fails}
 use Rattle.mesh_laws.proofs.Containing.{eqb-sym, below-all}
 use Rattle.sf_defs.specs.declared.Leaf.{Leaf}
-use Rattle.sf_defs.specs.Forest.{Forest, leaf, root_at, leaves_on, roots_on, root_of, has_root, ForestFlaw, flaw_on, flaw, IsForest, through, compose, leaf_of, FitsLocals, invert, is_kept, embed_roots, kept, embed_leaves}
+use Rattle.sf_defs.specs.Forest.{Forest, leaf, root_at, leaves_on, roots_on, root_of, has_root, ForestFlaw, flaw_on, flaw, IsForest, through, compose, leaf_of, FitsLocals, invert, is_kept, embed_roots, selected, embed_leaves}
 use Rattle.rank_laws.proofs.Lists.{find-none}
 use Rattle.rank_laws.proofs.Forests.{is_local, locals_differ, IsSound, sound, get_or-image}
 use Rattle.rank_laws.proofs.Inverting.{root-there, leaf-looks_up, local-fits, forest-findable}
 use Rattle.rank_laws.proofs.PointForests.{Rise, rise-from, nothing-first, forest-from}
 
--- sound leaves with other local indices than the earlier ones have no flaw behind them
+-- sound leaves with other local indices than the earlier ones have no flaw after them
 flawless-after : (roots : List ℕ) (rank : ℕ) (earlier : List Leaf) (i : ℕ) (ls : List Leaf) → IsSound roots ls → AllByRecursion (λ (l : Leaf). list_any (is_local l.local) earlier ≡ false) ls → flaw_on roots rank earlier i ls ≡ None
 flawless-after roots rank earlier i [] s h = refl
 flawless-after roots rank earlier i (l ∷ ls) s h =
@@ -86,30 +86,30 @@ embed_roots-forest f keep h = sound-forest (embed_roots f keep) (all_map (IsSoun
     (all_weaker (IsSound f.roots) (λ ls. IsSound f.roots (filter (λ l. is_kept keep (root_at l)) ls)) (λ ls s. record { differ = filter-differ (λ l. is_kept keep (root_at l)) ls s.differ; rooted = all_filter (λ l. has_root f.roots l ≡ true) (λ l. is_kept keep (root_at l)) ls s.rooted }) f.leaves (ranks-sound f h)))
 
 -- of what all have, what is kept by place has it
-kept-all : {X : Type 0} (P : X → Type 0) (bs : List Bool) (xs : List X) → AllByRecursion P xs → AllByRecursion P (kept bs xs)
+kept-all : {X : Type 0} (P : X → Type 0) (bs : List Bool) (xs : List X) → AllByRecursion P xs → AllByRecursion P (selected bs xs)
 kept-all P [] xs h = tt
 kept-all P (b ∷ bs) [] h = tt
 kept-all P (b ∷ bs) (x ∷ xs) h = go b (kept-all P bs xs h.1)
   where
-    go : (c : Bool) → AllByRecursion P (kept bs xs) → AllByRecursion P (cond c (x ∷ kept bs xs) (kept bs xs))
+    go : (c : Bool) → AllByRecursion P (selected bs xs) → AllByRecursion P (cond c (x ∷ selected bs xs) (selected bs xs))
     go true r = (h.0, r)
     go false r = r
 
 -- of leaves with different local indices, those that are kept by place still differ
-kept-differ : (bs : List Bool) (ls : List Leaf) → locals_differ ls → locals_differ (kept bs ls)
+kept-differ : (bs : List Bool) (ls : List Leaf) → locals_differ ls → locals_differ (selected bs ls)
 kept-differ [] ls d = tt
 kept-differ (b ∷ bs) [] d = tt
 kept-differ (b ∷ bs) (l ∷ ls) d = go b (kept-differ bs ls d.1)
   where
-    go : (c : Bool) → locals_differ (kept bs ls) → locals_differ (cond c (l ∷ kept bs ls) (kept bs ls))
-    go true r = (none_passes (is_local l.local) (kept bs ls) (kept-all (λ (x : Leaf). (x.local == l.local) ≡ false) bs ls (each_fails (is_local l.local) ls d.0)), r)
+    go : (c : Bool) → locals_differ (selected bs ls) → locals_differ (cond c (l ∷ selected bs ls) (selected bs ls))
+    go true r = (none_passes (is_local l.local) (selected bs ls) (kept-all (λ (x : Leaf). (x.local == l.local) ≡ false) bs ls (each_fails (is_local l.local) ls d.0)), r)
     go false r = r
 
 -- embedding by places gives a forest
 pub embed_leaves-forest : (f : Forest) (keep : List (List Bool)) → IsForest f → IsForest (embed_leaves f keep)
 unfolding embed_leaves
-embed_leaves-forest f keep h = sound-forest (embed_leaves f keep) (all_map (IsSound f.roots) (λ (r : ℕ × List Leaf). kept (get_or keep r.0 []) r.1) (enumerate_from 0 f.leaves)
-    (all_weaker (λ (r : ℕ × List Leaf). IsSound f.roots r.1) (λ (r : ℕ × List Leaf). IsSound f.roots (kept (get_or keep r.0 []) r.1)) (λ r s. record { differ = kept-differ (get_or keep r.0 []) r.1 s.differ; rooted = kept-all (λ l. has_root f.roots l ≡ true) (get_or keep r.0 []) r.1 s.rooted }) (enumerate_from 0 f.leaves) (all_enumerated (IsSound f.roots) 0 f.leaves (ranks-sound f h))))
+embed_leaves-forest f keep h = sound-forest (embed_leaves f keep) (all_map (IsSound f.roots) (λ (r : ℕ × List Leaf). selected (get_or keep r.0 []) r.1) (enumerate_from 0 f.leaves)
+    (all_weaker (λ (r : ℕ × List Leaf). IsSound f.roots r.1) (λ (r : ℕ × List Leaf). IsSound f.roots (selected (get_or keep r.0 []) r.1)) (λ r s. record { differ = kept-differ (get_or keep r.0 []) r.1 s.differ; rooted = kept-all (λ l. has_root f.roots l ≡ true) (get_or keep r.0 []) r.1 s.rooted }) (enumerate_from 0 f.leaves) (all_enumerated (IsSound f.roots) 0 f.leaves (ranks-sound f h))))
 
 -- ---- composition
 

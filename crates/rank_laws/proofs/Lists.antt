@@ -131,10 +131,10 @@ image-at d g past n [] k = sym (past (n + k))
 image-at d g past n (x ∷ xs) zero = ap (λ i. g (i, x)) (let e : n ≡ n + 0 = omega arith in e)
 image-at d g past n (x ∷ xs) (suc k) = image-at d g past (n + 1) xs k ∙ ap (λ i. g (i, get_or xs k d)) (let e : n + 1 + k ≡ n + suc k = omega arith in e)
 
--- what stands behind a list
-behind : {X : Type 0} (xs : List X) (x d : X) → get_or (xs ++ x ∷ []) (length xs) d ≡ x
-behind [] x d = refl
-behind (y ∷ ys) x d = behind ys x d
+-- what stands after a list
+at-end : {X : Type 0} (xs : List X) (x d : X) → get_or (xs ++ x ∷ []) (length xs) d ≡ x
+at-end [] x d = refl
+at-end (y ∷ ys) x d = at-end ys x d
 
 -- what stands before the end of a list
 before : {X : Type 0} (xs ys : List X) (k : ℕ) (d : X) → k < length xs → get_or (xs ++ ys) k d ≡ get_or xs k d
@@ -147,7 +147,7 @@ pub image-below : {X : Type 0} (f : ℕ → X) (d : X) (n k : ℕ) → k < n →
 image-below f d zero k h = absurd (omega arith)
 image-below f d (suc n) k h = ap (λ l. get_or l k d) (map-append f (below n) (n ∷ [])) ∙ ⊎_elim
     (λ (lt : k < n). before (map f (below n)) (f n ∷ []) k d (omega (arith, count n)) ∙ image-below f d n k lt)
-    (λ (ge : n ≤ k). let same : k ≡ n = omega arith in let long : k ≡ length (map f (below n)) = omega (arith, count n) in ap (λ i. get_or (map f (below n) ++ f n ∷ []) i d) long ∙ behind (map f (below n)) (f n) d ∙ ap f (sym same))
+    (λ (ge : n ≤ k). let same : k ≡ n = omega arith in let long : k ≡ length (map f (below n)) = omega (arith, count n) in ap (λ i. get_or (map f (below n) ++ f n ∷ []) i d) long ∙ at-end (map f (below n)) (f n) d ∙ ap f (sym same))
     (cases_lt k n)
   where
     count : (j : ℕ) → length (map f (below j)) ≡ j

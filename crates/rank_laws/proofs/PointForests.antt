@@ -23,7 +23,7 @@ abbrev pub Rise : ℕ → List Leaf → Type 0
 Rise n [] = Unit {0}
 Rise n (l ∷ ls) = (n ≤ l.local) × Rise (l.local + 1) ls
 
--- rising leaves whose roots are there have no flaw behind lower ones
+-- rising leaves whose roots are there have no flaw after lower ones
 rising-sound : (roots : List ℕ) (rank : ℕ) (earlier : List Leaf) (n i : ℕ) (ls : List Leaf) → AllByRecursion (λ (e : Leaf). e.local < n) earlier → Rise n ls → AllByRecursion (λ l. has_root roots l ≡ true) ls → flaw_on roots rank earlier i ls ≡ None
 rising-sound roots rank earlier n i [] e r h = refl
 rising-sound roots rank earlier n i (l ∷ ls) e r h =

@@ -95,11 +95,11 @@ module _ (m : Mesh) (not_vertices : m.dim ≢ 0) (not_edges : m.dim ≢ 1) where
   -- with faces that differ and stand apart, all points differ
   all-differ : (faces : List Sight) → points_differ faces ≡ true → AllByRecursion (λ s. list_any (shows (point_of s)) faces ≡ false) (stratum m m.dim ++ stratum m 0) → AllByRecursion (λ s. list_any (shows (point_of s)) (stratum m 1) ≡ false) faces
       → points_differ (stratum m m.dim ++ stratum m 0 ++ faces ++ stratum m 1) ≡ true
-  all-differ faces d before behind =
+  all-differ faces d before after =
       differ-append (stratum m m.dim ++ stratum m 0 ++ faces) (stratum m 1)
       (differ-append (stratum m m.dim ++ stratum m 0) faces (differ-append (stratum m m.dim) (stratum m 0) (stratum-differs m m.dim) (stratum-differs m 0) (strata-apart m.dim 0 not_vertices)) d before)
       (stratum-differs m 1)
-      (all_append (λ s. list_any (shows (point_of s)) (stratum m 1) ≡ false) (stratum m m.dim ++ stratum m 0) faces (cells-apart 1 not_edges (λ e. absurd (omega arith))) behind)
+      (all_append (λ s. list_any (shows (point_of s)) (stratum m 1) ≡ false) (stratum m m.dim ++ stratum m 0) faces (cells-apart 1 not_edges (λ e. absurd (omega arith))) after)
 
 -- the points of a flat or a solid mesh stand in its chart once each
 pub strata-differ : (m : Mesh) → IsFlatOrSolid m → points_differ (strata m) ≡ true

@@ -48,7 +48,7 @@ pub data ForestFlaw : Type 0 where
 abbrev pub has_root : List ℕ → Leaf → Bool
 has_root roots l = nat_lt l.index (get_or roots l.rank 0)
 
--- the first flaw among the leaves of a rank, from place i on, behind these earlier ones
+-- the first flaw among the leaves of a rank, from place i on, after these earlier ones
 abbrev pub flaw_on : List ℕ → ℕ → List Leaf → ℕ → List Leaf → Option ForestFlaw
 flaw_on roots rank earlier i [] = None
 flaw_on roots rank earlier i (l ∷ ls) =
@@ -74,12 +74,12 @@ unfoldable pub compose : Forest → Forest → Forest
 compose a b = record { roots = a.roots; leaves = map (filter_map (through a)) b.leaves }
 
 -- the leaf is on this root
-abbrev pub is_on : ℕ × ℕ → Leaf → Bool
-is_on root l = (l.rank == root.0) && (l.index == root.1)
+abbrev pub is_on_root : ℕ × ℕ → Leaf → Bool
+is_on_root root l = (l.rank == root.0) && (l.index == root.1)
 
 -- how many leaves name a root
 unfoldable pub degree : Forest → ℕ → ℕ → ℕ
-degree f rank index = sum_by (count_by (is_on (rank, index))) f.leaves
+degree f rank index = sum_by (count_by (is_on_root (rank, index))) f.leaves
 
 -- all roots, by rank and index
 abbrev pub all_roots : Forest → List (ℕ × ℕ)
@@ -91,7 +91,7 @@ shared_root f = find (λ root. nat_lt 1 (degree f root.0 root.1)) (all_roots f)
 
 -- the first leaf on a root, by its rank and local index
 unfoldable pub leaf_of : Forest → ℕ → ℕ → Option (ℕ × ℕ)
-leaf_of f rank index = first_some (λ r. option_map (λ (l : Leaf). (r.0, l.local)) (find (is_on (rank, index)) r.1)) (enumerate_from 0 f.leaves)
+leaf_of f rank index = first_some (λ r. option_map (λ (l : Leaf). (r.0, l.local)) (find (is_on_root (rank, index)) r.1)) (enumerate_from 0 f.leaves)
 
 -- the local indices of the leaves of each rank are below its number
 abbrev pub FitsLocals : Forest → List ℕ → Type 0
@@ -114,11 +114,11 @@ unfoldable pub embed_roots : Forest → List (List Bool) → Forest
 embed_roots f keep = record { roots = f.roots; leaves = map (filter (λ l. is_kept keep (root_at l))) f.leaves }
 
 -- the entries whose place is kept
-abbrev pub kept : {X : Type 0} → List Bool → List X → List X
-kept [] xs = []
-kept (b ∷ bs) [] = []
-kept (b ∷ bs) (x ∷ xs) = if b then x ∷ kept bs xs else kept bs xs
+abbrev pub selected : {X : Type 0} → List Bool → List X → List X
+selected [] xs = []
+selected (b ∷ bs) [] = []
+selected (b ∷ bs) (x ∷ xs) = if b then x ∷ selected bs xs else selected bs xs
 
 -- the same roots, and of the leaves of each rank those at the places that are kept
 unfoldable pub embed_leaves : Forest → List (List Bool) → Forest
-embed_leaves f keep = record { roots = f.roots; leaves = map (λ r. kept (get_or keep r.0 []) r.1) (enumerate_from 0 f.leaves) }
+embed_leaves f keep = record { roots = f.roots; leaves = map (λ r. selected (get_or keep r.0 []) r.1) (enumerate_from 0 f.leaves) }

@@ -28,7 +28,7 @@ changes e = not (after_ask e.ask e.got == e.got)
 
 -- one goes before the other, or neither does and the rest decides
 abbrev pub then_by : Bool → Bool → Bool → Bool
-then_by before behind rest = before || (not behind && rest)
+then_by before after rest = before || (not after && rest)
 
 -- by fetched values; then those that change nothing before those that do; then by rank, then by index
 unfoldable pub stands_before : Op → ℕ → Entry → Entry → Bool

@@ -98,12 +98,12 @@ point_text m number p = point_line m.dim p.0 p.1.poly p.1.key (cone m number p.1
 unfoldable pub points_text : Mesh → List Rank → List ℕ
 points_text m ranks = flat_map (λ (r : Rank). flat_map (point_text m (number_of ranks)) (enumerate_from r.base r.owned)) ranks
 
-unfoldable pub step_text : Mesh → ℕ → List Rank → List ℕ
-step_text m place ranks = step_line place ++ flat_map rank_text (enumerate_from 0 ranks) ++ total_text m ranks ++ points_text m ranks
+unfoldable pub plain_step_text : Mesh → ℕ → List Rank → List ℕ
+plain_step_text m place ranks = step_line place ++ flat_map rank_text (enumerate_from 0 ranks) ++ total_text m ranks ++ points_text m ranks
 
 unfoldable pub end_line : List ℕ
 end_line = line (codes "end")
 
 -- the text of a mesh on one rank, with the plan of one part and all points shown
 unfoldable pub plain_text : Mesh → List ℕ
-plain_text m = head_text m (alone m ∷ []) ++ step_text m 0 (alone m ∷ []) ++ end_line
+plain_text m = head_text m (alone m ∷ []) ++ plain_step_text m 0 (alone m ∷ []) ++ end_line

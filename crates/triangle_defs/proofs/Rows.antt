@@ -10,7 +10,7 @@ use Rattle.mesh_defs.specs.Diagram.{stratum, strata, chart, seen_under, entry, c
 use Rattle.line_defs.specs.Rows.{lines_of, tokens_of, rows_of}
 use Rattle.line_defs.specs.Numbers.{numeral, coordinate, fraction_digits, unsigned_fixed_text, fixed_text}
 use Rattle.triangle_defs.specs.Triangles.{node_of, element_of, count_of, nodes_part, elements_part, format_part, triangles, triangle_mesh}
-use Rattle.text_defs.specs.Text.{alone, tag, entry_text, at_text, tail_text, mesh_line, ranks_line, step_line, rank_line, total_line, point_line, head_text, rank_text, total_text, point_text, points_text, step_text, end_line, plain_text}
+use Rattle.text_defs.specs.Text.{alone, tag, entry_text, at_text, tail_text, mesh_line, ranks_line, step_line, rank_line, total_line, point_line, head_text, rank_text, total_text, point_text, points_text, plain_step_text, end_line, plain_text}
 
 -- the text of a file of triangles, where it is one
 abbrev text_of_file : List ℕ → Option (List ℕ)
@@ -20,7 +20,7 @@ abbrev one_triangle : List ℕ
 one_triangle = codes "$MeshFormat\n2.2 0 8\n$EndMeshFormat\n$Nodes\n3\n1 0 0 0\n2 1 0 0\n3 0 1 0\n$EndNodes\n$Elements\n1\n1 2 2 0 1 1 2 3\n$EndElements\n"
 
 one_triangle_text : text_of_file one_triangle ≡ Some (codes "mesh dim 2 cells 1 vertices 3 unused 0 loose 0 merged 0\nranks 1\nstep 0 part\nrank 0 cells 1 held 7 owned 7 base 0\ntotal 7 cells 1 vertices 3 faces 0 edges 3\nP 0 c0 4:0 5:0 6:0\nP 1 v0 @ 0 0 0\nP 2 v1 @ 1 0 0\nP 3 v2 @ 0 1 0\nP 4 e8 1:0 2:0\nP 5 e9 2:0 3:0\nP 6 e10 3:0 1:0\nend\n")
-unfolding digits sorted rotations reflections orientations corners_under act relative sights_of first_sight key arrangement contains stratum strata chart seen_under entry cone lines_of tokens_of rows_of numeral coordinate fraction_digits unsigned_fixed_text fixed_text node_of element_of count_of nodes_part elements_part format_part triangles triangle_mesh alone tag entry_text at_text tail_text mesh_line ranks_line step_line rank_line total_line point_line head_text rank_text total_text point_text points_text step_text end_line plain_text
+unfolding digits sorted rotations reflections orientations corners_under act relative sights_of first_sight key arrangement contains stratum strata chart seen_under entry cone lines_of tokens_of rows_of numeral coordinate fraction_digits unsigned_fixed_text fixed_text node_of element_of count_of nodes_part elements_part format_part triangles triangle_mesh alone tag entry_text at_text tail_text mesh_line ranks_line step_line rank_line total_line point_line head_text rank_text total_text point_text points_text plain_step_text end_line plain_text
 one_triangle_text = refl
 
 -- two triangles that share an edge: the second one sees it reversed
@@ -28,7 +28,7 @@ abbrev two_triangles : List ℕ
 two_triangles = codes "$MeshFormat\n2.2 0 8\n$EndMeshFormat\n$Nodes\n4\n1 0 0 0\n2 1 0 0\n3 0 1 0\n4 1 1 0\n$EndNodes\n$Elements\n2\n1 2 2 0 1 1 2 3\n2 2 2 0 1 2 4 3\n$EndElements\n"
 
 two_triangles_text : text_of_file two_triangles ≡ Some (codes "mesh dim 2 cells 2 vertices 4 unused 0 loose 0 merged 0\nranks 1\nstep 0 part\nrank 0 cells 2 held 11 owned 11 base 0\ntotal 11 cells 2 vertices 4 faces 0 edges 5\nP 0 c0 6:0 7:0 8:0\nP 1 c1 9:0 10:0 7:-1\nP 2 v0 @ 0 0 0\nP 3 v1 @ 1 0 0\nP 4 v2 @ 0 1 0\nP 5 v3 @ 1 1 0\nP 6 e8 2:0 3:0\nP 7 e9 3:0 4:0\nP 8 e10 4:0 2:0\nP 9 e72 3:0 5:0\nP 10 e73 5:0 4:0\nend\n")
-unfolding digits sorted rotations reflections orientations corners_under act relative sights_of first_sight key arrangement contains stratum strata chart seen_under entry cone lines_of tokens_of rows_of numeral coordinate fraction_digits unsigned_fixed_text fixed_text node_of element_of count_of nodes_part elements_part format_part triangles triangle_mesh alone tag entry_text at_text tail_text mesh_line ranks_line step_line rank_line total_line point_line head_text rank_text total_text point_text points_text step_text end_line plain_text
+unfolding digits sorted rotations reflections orientations corners_under act relative sights_of first_sight key arrangement contains stratum strata chart seen_under entry cone lines_of tokens_of rows_of numeral coordinate fraction_digits unsigned_fixed_text fixed_text node_of element_of count_of nodes_part elements_part format_part triangles triangle_mesh alone tag entry_text at_text tail_text mesh_line ranks_line step_line rank_line total_line point_line head_text rank_text total_text point_text points_text plain_step_text end_line plain_text
 two_triangles_text = refl
 
 -- nodes that no triangle has are counted and not numbered; blanks, tabs, CR and empty lines do not matter
@@ -36,7 +36,7 @@ abbrev spread_out : List ℕ
 spread_out = codes "\n $MeshFormat\r\n2.2\t0 8\r\n$EndMeshFormat\n$Nodes\n5\n\n1 7 7 7\n2 -1 0 0\n3 1 0 0\n4 8 8 8\n5 0 -12 0\n$EndNodes\n$Elements\n 1 \n9 2 2 0 4 5 2 3\n$EndElements"
 
 spread_out_text : text_of_file spread_out ≡ Some (codes "mesh dim 2 cells 1 vertices 3 unused 2 loose 0 merged 0\nranks 1\nstep 0 part\nrank 0 cells 1 held 7 owned 7 base 0\ntotal 7 cells 1 vertices 3 faces 0 edges 3\nP 0 c0 4:0 5:0 6:0\nP 1 v0 @ -1 0 0\nP 2 v1 @ 1 0 0\nP 3 v2 @ 0 -12 0\nP 4 e8 3:0 1:0\nP 5 e9 1:0 2:0\nP 6 e10 2:0 3:0\nend\n")
-unfolding digits sorted rotations reflections orientations corners_under act relative sights_of first_sight key arrangement contains stratum strata chart seen_under entry cone lines_of tokens_of rows_of numeral coordinate fraction_digits unsigned_fixed_text fixed_text node_of element_of count_of nodes_part elements_part format_part triangles triangle_mesh alone tag entry_text at_text tail_text mesh_line ranks_line step_line rank_line total_line point_line head_text rank_text total_text point_text points_text step_text end_line plain_text
+unfolding digits sorted rotations reflections orientations corners_under act relative sights_of first_sight key arrangement contains stratum strata chart seen_under entry cone lines_of tokens_of rows_of numeral coordinate fraction_digits unsigned_fixed_text fixed_text node_of element_of count_of nodes_part elements_part format_part triangles triangle_mesh alone tag entry_text at_text tail_text mesh_line ranks_line step_line rank_line total_line point_line head_text rank_text total_text point_text points_text plain_step_text end_line plain_text
 spread_out_text = refl
 
 -- ---- what is no file of triangles
