@@ -122,7 +122,8 @@ no-header : (text : List ℕ) → is_blank (get_or text 0 0) ≡ false → eqb (
 no-header [] blank other = refl
 no-header (b ∷ text) blank other = rw blank other
 
-first-words : (indent : Bool) (place line : ℕ) (text : List ℕ) → is_blank (get_or text 0 0) ≡ false → (indent && eqb (get_or text 0 0) 36) ≡ false
+-- the items of a line of which a token is left
+pub first-words : (indent : Bool) (place line : ℕ) (text : List ℕ) → is_blank (get_or text 0 0) ≡ false → (indent && eqb (get_or text 0 0) 36) ≡ false
     → cond indent (items_on (at place line text)) (words_on (at place line text)) ≡ words_on (at place line text)
 unfolding items_on
 first-words false place line text blank other = refl

@@ -3,17 +3,17 @@ use Rattle.std.proofs.Common.{◌≡◌, ℕ, suc, ◌+◌, ◌-◌, ◌<◌, �
 use Rattle.std.specs.Prelude.{find, flat_map}
 use Rattle.std.specs.List.{list_all, position_or_len}
 use Rattle.std.proofs.lemmas.Bool.{cases_lt, lt-leb, le-leb, leb-true, eqb-true, and_parts, cond-false, eq-eqb, ne_eqb}
-use Rattle.std.proofs.lemmas.List.{drop_more, drop_all, drop-drop, get_or-take, map-append}
+use Rattle.std.proofs.lemmas.List.{drop_more, drop_all, drop-drop, get_or-take}
 use Rattle.std.proofs.lemmas.List.Folds.{length-prefix_len, list_all_at}
 use Rattle.line_defs.specs.Rows.{is_blank, is_newline, is_some_bytes, onto_first, parts, lines_of}
 use Rattle.scan_defs.specs.declared.Token.{Token}
 use Rattle.scan_defs.specs.Lines.{Line, lines_at, line_number, lines_from, is_indent, rest_of_line, line_end, front, back}
 use Rattle.scan_defs.specs.Items.{Item, Header, Word, is_header, name_of, tokens_at, tokens_on, words_on, items_on, items_of, ahead}
-use Rattle.scan_defs.specs.Steps.{is_on, behind_items_on}
+use Rattle.scan_defs.specs.Steps.{behind_items_on}
 use Rattle.scan_defs.specs.Quotes.{is_quoted, quoted_on, or_line, quoted_where, quoted_from, quoted_in}
 use Rattle.scan.specs.Cursors.{is_gap, spot, IsAt}
 use Rattle.scan.specs.declared.cursor.Cursor.{Cursor}
-use Rattle.scan.proofs.Ahead.{left, first-line, lines-first, lines-from, no-items, front-none}
+use Rattle.scan.proofs.Ahead.{left, first-line, lines-first, lines-from, no-items, first-words, front-none}
 use Rattle.scan.proofs.Runs.{others, parts-first, back-cons, back-some}
 use Rattle.scan.proofs.Places.{number-newline, number-other, both, no-gap, run-pos, first-left, run-inside, at-run, in-line, line-slice, line_end-is, line_end-more, ahead-is, past-token, header-ahead, ended-last}
 
@@ -194,6 +194,7 @@ quoted-none place line text e = rw (cond-none (is_quoted text) (back text - 1) e
 -- a quoted text, whose last `"` stands there
 pub record Quoted (place line last : ℕ) (text : List ℕ) : Type 0 where
   pub is : or_line line (quoted_on (at place line text)) ≡ Ok (record { start = place + 1; end = place + last; line = line })
+  pub first : get_or text 0 0 ≡ 34
   pub some : 1 ≤ last
   pub inside : last < length text
 
@@ -202,74 +203,64 @@ unfolding quoted_on
 quoted-some place line last text f e =
     let both-are = cond-some (is_quoted text) (back text - 1) last e in
     let q : quoted-from text 0 (back text) ≡ true = ap (λ (k : ℕ). quoted-from text k (back text)) (sym f) ∙ both-are.0 in
-    let two : 0 + 2 ≤ back text = leb-true (0 + 2) (back text) (and_parts (leb (0 + 2) (back text)) (eqb (get_or text 0 0) 34 && eqb (get_or text (back text - 1) 0) 34) q).0 in
+    let fits = and_parts (leb (0 + 2) (back text)) (eqb (get_or text 0 0) 34 && eqb (get_or text (back text - 1) 0) 34) q in
+    let two : 0 + 2 ≤ back text = leb-true (0 + 2) (back text) fits.0 in
     let s : place + front text + 1 ≡ place + 1 = omega (arith, f) in
     let k : place + back text - 1 ≡ place + last = let l = both-are.1 in omega arith in
     record {
       is = rw (both-are.0, s, k) refl;
+      first = eqb-true (get_or text 0 0) 34 (and_parts (eqb (get_or text 0 0) 34) (eqb (get_or text (back text - 1) 0) 34) fits.1).0;
       some = let l = both-are.1 in omega arith;
       inside = let l = both-are.1 in omega arith;
     }
 
--- ---- the items behind a line
+-- ---- the items behind the tokens of a line
 
-on-true : (n : ℕ) → eqb n n ≡ true
-on-true n = eq-eqb n n refl
+skip-token : (b : Bool) (n : ℕ) (t : Token) (tokens : List Token) (rest : List Item) → t.line ≡ n → behind_items_on n (map Word tokens ++ rest) ≡ behind_items_on n rest
+    → behind_items_on n (map Word (cond b (t ∷ []) [] ++ tokens) ++ rest) ≡ behind_items_on n rest
+skip-token true n t tokens rest e skips = rw (e, eq-eqb n n refl) skips
+skip-token false n t tokens rest e skips = skips
 
-some-on : (b : Bool) (n : ℕ) (t : Token) (items : List Item) → t.line ≡ n → list_all (is_on n) items ≡ true → list_all (is_on n) (map Word (cond b (t ∷ []) []) ++ items) ≡ true
-some-on true n t items e all = rw (e, on-true n, all) refl
-some-on false n t items e all = all
-
-tokens-on : (place n : ℕ) (ps : List (List ℕ)) → list_all (is_on n) (map Word (tokens_at place n ps)) ≡ true
-tokens-on place n [] = refl
-tokens-on place n (p ∷ ps) =
+-- the tokens of that line are skipped
+skip-tokens : (place n : ℕ) (ps : List (List ℕ)) (rest : List Item) → behind_items_on n (map Word (tokens_at place n ps) ++ rest) ≡ behind_items_on n rest
+skip-tokens place n [] rest = refl
+skip-tokens place n (p ∷ ps) rest =
     let t : Token = record { start = place; end = place + length p; line = n } in
-    rw (map-append Word (cond (is_some_bytes p) (t ∷ []) []) (tokens_at (place + length p + 1) n ps))
-    (some-on (is_some_bytes p) n t (map Word (tokens_at (place + length p + 1) n ps)) refl (tokens-on (place + length p + 1) n ps))
+    skip-token (is_some_bytes p) n t (tokens_at (place + length p + 1) n ps) rest refl (skip-tokens (place + length p + 1) n ps rest)
 
-words-on : (place n : ℕ) (text : List ℕ) → list_all (is_on n) (words_on (at place n text)) ≡ true
+skip-words : (place n : ℕ) (text : List ℕ) (rest : List Item) → behind_items_on n (words_on (at place n text) ++ rest) ≡ behind_items_on n rest
 unfolding tokens_on
-words-on place n text = tokens-on place n (parts is_blank text)
+skip-words place n text rest = skip-tokens place n (parts is_blank text) rest
 
-items-on-at : (h : Bool) (place n : ℕ) (text : List ℕ) → list_all (is_on n) (cond h (Header (name_of (at place n text)) ∷ []) (words_on (at place n text))) ≡ true
-unfolding name_of
-items-on-at true place n text = rw (on-true n) refl
-items-on-at false place n text = words-on place n text
+keep-token : (b : Bool) (n m : ℕ) (t : Token) (tokens : List Token) (rest : List Item) → n < m → t.line ≡ m → behind_items_on n (map Word tokens ++ rest) ≡ map Word tokens ++ rest
+    → behind_items_on n (map Word (cond b (t ∷ []) [] ++ tokens) ++ rest) ≡ map Word (cond b (t ∷ []) [] ++ tokens) ++ rest
+keep-token true n m t tokens rest lt e kept = rw (ne_eqb t.line n (λ q. omega (arith, e, q))) refl
+keep-token false n m t tokens rest lt e kept = kept
 
-items-on-line : (place n : ℕ) (text : List ℕ) → list_all (is_on n) (items_on (at place n text)) ≡ true
-unfolding items_on
-items-on-line place n text = items-on-at (is_header text) place n text
+-- the tokens of a later line are kept
+keep-tokens : (n place m : ℕ) (ps : List (List ℕ)) (rest : List Item) → n < m → behind_items_on n rest ≡ rest → behind_items_on n (map Word (tokens_at place m ps) ++ rest) ≡ map Word (tokens_at place m ps) ++ rest
+keep-tokens n place m [] rest lt kept = kept
+keep-tokens n place m (p ∷ ps) rest lt kept =
+    let t : Token = record { start = place; end = place + length p; line = m } in
+    keep-token (is_some_bytes p) n m t (tokens_at (place + length p + 1) m ps) rest lt refl (keep-tokens n (place + length p + 1) m ps rest lt kept)
 
-first-on : (whole : Bool) (place n : ℕ) (text : List ℕ) → list_all (is_on n) (cond whole (items_on (at place n text)) (words_on (at place n text))) ≡ true
-first-on true place n text = items-on-line place n text
-first-on false place n text = words-on place n text
-
--- the items of a line are skipped
-skip-on : (n : ℕ) (items rest : List Item) → list_all (is_on n) items ≡ true → behind_items_on n (items ++ rest) ≡ behind_items_on n rest
-skip-on n [] rest all = refl
-skip-on n (item ∷ items) rest all =
-    let b = and_parts (is_on n item) (list_all (is_on n) items) all in
-    rw b.0 (skip-on n items rest b.1)
-
-other-line : (n m : ℕ) (item : Item) → n < m → is_on m item ≡ true → is_on n item ≡ false
-other-line n m (Header name) lt e = let k = eqb-true name.line m e in ne_eqb name.line n (λ q. omega (arith, k, q))
-other-line n m (Word token) lt e = let k = eqb-true token.line m e in ne_eqb token.line n (λ q. omega (arith, k, q))
-
-keep-on : (n m : ℕ) (items rest : List Item) → n < m → list_all (is_on m) items ≡ true → behind_items_on n rest ≡ rest → behind_items_on n (items ++ rest) ≡ items ++ rest
-keep-on n m [] rest lt all e = e
-keep-on n m (item ∷ items) rest lt all e =
-    let b = and_parts (is_on m item) (list_all (is_on m) items) all in
-    rw (other-line n m item lt b.0) refl
+keep-line : (h : Bool) (n place m : ℕ) (text : List ℕ) (rest : List Item) → n < m → behind_items_on n rest ≡ rest
+    → behind_items_on n (cond h (Header (name_of (at place m text)) ∷ []) (words_on (at place m text)) ++ rest) ≡ cond h (Header (name_of (at place m text)) ∷ []) (words_on (at place m text)) ++ rest
+unfolding tokens_on
+keep-line true n place m text rest lt kept = refl
+keep-line false n place m text rest lt kept = keep-tokens n place m (parts is_blank text) rest lt kept
 
 later-lines : (n place m : ℕ) (texts : List (List ℕ)) → n < m → behind_items_on n (flat_map items_on (lines_at place m texts)) ≡ flat_map items_on (lines_at place m texts)
+unfolding items_on
 later-lines n place m [] lt = refl
 later-lines n place m (text ∷ texts) lt =
-    keep-on n m (items_on (at place m text)) (flat_map items_on (lines_at (place + length text + 1) (m + 1) texts)) lt (items-on-line place m text) (later-lines n (place + length text + 1) (m + 1) texts (omega arith))
+    keep-line (is_header text) n place m text (flat_map items_on (lines_at (place + length text + 1) (m + 1) texts)) lt (later-lines n (place + length text + 1) (m + 1) texts (omega arith))
 
--- what stands ahead of the end of a line
-left-end : (indent : Bool) (place n m : ℕ) (bytes : List ℕ) → m ≡ position_or_len is_newline bytes → left false (place + m) n (drop m bytes) ≡ behind_items_on n (left indent place n bytes)
+-- what stands ahead of the end of a line of which tokens are left
+left-end : (indent : Bool) (place n m : ℕ) (bytes : List ℕ) → m ≡ position_or_len is_newline bytes → is_blank (get_or (first-line bytes) 0 0) ≡ false → (indent && eqb (get_or (first-line bytes) 0 0) 36) ≡ false
+    → left false (place + m) n (drop m bytes) ≡ behind_items_on n (left indent place n bytes)
 unfolding items_of
-left-end indent place n m bytes is =
+left-end indent place n m bytes is ink other =
     let text : List ℕ = first-line bytes in
     let len : length text ≡ m = length-prefix_len (λ x. not (is_newline x)) bytes ∙ sym is in
     let X : List Item = flat_map items_on (lines_at (place + m + 1) (n + 1) (others (lines_of bytes))) in
@@ -277,9 +268,9 @@ left-end indent place n m bytes is =
     let lines : lines_of (drop m bytes) ≡ [] ∷ others (lines_of bytes) = lines-from m bytes (omega (arith, is)) ∙ ap (λ (t : List ℕ). t ∷ others (lines_of bytes)) none in
     let zero-is : place + m + 0 + 1 ≡ place + m + 1 = omega arith in
     let a : left false (place + m) n (drop m bytes) ≡ X = rw (lines, no-items false (place + m) n, zero-is) refl in
-    let b : left indent place n bytes ≡ cond indent (items_on (at place n text)) (words_on (at place n text)) ++ X = rw (lines-first bytes, len) refl in
-    let s : behind_items_on n (cond indent (items_on (at place n text)) (words_on (at place n text)) ++ X) ≡ behind_items_on n X =
-    skip-on n (cond indent (items_on (at place n text)) (words_on (at place n text))) X (first-on indent place n text) in
+    let words : cond indent (items_on (at place n text)) (words_on (at place n text)) ≡ words_on (at place n text) = first-words indent place n text ink other in
+    let b : left indent place n bytes ≡ words_on (at place n text) ++ X = rw (lines-first bytes, len) (ap (λ (front : List Item). front ++ X) words) in
+    let s : behind_items_on n (words_on (at place n text) ++ X) ≡ behind_items_on n X = skip-words place n text X in
     let l : behind_items_on n X ≡ X = later-lines n (place + m + 1) (n + 1) (others (lines_of bytes)) (omega arith) in
     a ∙ (sym l ∙ (sym s ∙ ap (behind_items_on n) (sym b)))
 
@@ -290,8 +281,8 @@ pub record OverQuoted (bytes : List ℕ) (c : Cursor) (end : ℕ) : Type 0 where
   pub stands : end ≡ line_end bytes (c.place + 1)
   pub is : ahead (spot bytes end) ≡ behind_items_on c.line (ahead (spot bytes c.place))
 
-pub past-quoted : (bytes : List ℕ) (c : Cursor) (end : ℕ) → IsAt bytes c → c.place < length bytes → is_gap (get_or bytes c.place 0) ≡ false → end ≡ line_end bytes c.place → OverQuoted bytes c end
-past-quoted bytes c end is-at lt ink is =
+pub past-quoted : (bytes : List ℕ) (c : Cursor) (end : ℕ) → IsAt bytes c → c.place < length bytes → is_gap (get_or bytes c.place 0) ≡ false → get_or (rest_of_line bytes c.place) 0 0 ≡ 34 → end ≡ line_end bytes c.place → OverQuoted bytes c end
+past-quoted bytes c end is-at lt ink quote is =
     let p : ℕ = c.place in
     let m : ℕ = position_or_len is_newline (drop p bytes) in
     let both-are = no-gap (is_blank (get_or bytes p 0)) (is_newline (get_or bytes p 0)) ink in
@@ -302,7 +293,8 @@ past-quoted bytes c end is-at lt ink is =
     at-run bytes c end is-at (omega arith) (omega arith) (λ j j-lt. in-line bytes p end j is j-lt) both-are.0 in
     let d : drop m (drop p bytes) ≡ drop (p + m) bytes = drop-drop m p bytes in
     let a : ahead (spot bytes (p + m)) ≡ left false (p + m) c.line (drop (p + m) bytes) = ahead-is bytes (p + m) ∙ rw (rw e at (sym after.indent), rw e at (sym after.line)) refl in
-    let b : left false (p + m) c.line (drop m (drop p bytes)) ≡ behind_items_on c.line (left (is_indent bytes p) p c.line (drop p bytes)) = left-end (is_indent bytes p) p c.line m (drop p bytes) refl in
+    let b : left false (p + m) c.line (drop m (drop p bytes)) ≡ behind_items_on c.line (left (is_indent bytes p) p c.line (drop p bytes)) =
+    left-end (is_indent bytes p) p c.line m (drop p bytes) refl (rw quote refl) (rw quote (and-none (is_indent bytes p))) in
     let f : left (is_indent bytes p) p (line_number bytes p) (drop p bytes) ≡ left (is_indent bytes p) p c.line (drop p bytes) = rw (sym is-at.line) refl in
     record {
       at-is = after;
@@ -347,7 +339,7 @@ some-quoted bytes c end last is-at ink is some =
     record {
       lines = h.lines ∙ q.is;
       by-items = h.by-items ∙ q.is;
-      over = past-quoted bytes c end is-at lt (ink lt) is;
+      over = past-quoted bytes c end is-at lt (ink lt) q.first is;
       some = q.some;
       inside = omega (arith, is, l);
     }

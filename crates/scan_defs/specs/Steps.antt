@@ -57,14 +57,14 @@ place_after_quoted s (Err line) = s.place
 place_after_quoted s (Ok text) = line_end s.bytes text.start
 
 -- the item is a token of this line
-abbrev pub is_on : ℕ → Item → Bool
-is_on number (Header name) = false
-is_on number (Word token) = token.line == number
+abbrev pub is_on_line : ℕ → Item → Bool
+is_on_line number (Header name) = false
+is_on_line number (Word token) = token.line == number
 
 -- the items after the tokens of a line
 abbrev pub behind_items_on : ℕ → List Item → List Item
 behind_items_on number [] = []
-behind_items_on number (item ∷ items) = if is_on number item then behind_items_on number items else item ∷ items
+behind_items_on number (item ∷ items) = if is_on_line number item then behind_items_on number items else item ∷ items
 
 abbrev pub ahead_after_quoted : List Item → Result Token ℕ → List Item
 ahead_after_quoted items (Err line) = items
