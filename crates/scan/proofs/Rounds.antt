@@ -43,21 +43,10 @@ times-ten n k =
     let p : 10 ^ (k + 1) ≡ 10 * 10 ^ k = rw add-one (pow-succ' 10 k) in
     ap (λ m. n * m) p ∙ sym (mul_assoc n 10 (10 ^ k))
 
--- one zero more
-pub zeros-more : (n count i total : ℕ) → i < count → n * 10 ^ (count - i) ≡ total → (n * 10) * 10 ^ (count - (i + 1)) ≡ total
-zeros-more n count i total lt e =
-    let k : count - i ≡ (count - (i + 1)) + 1 = omega arith in
-    sym (times-ten n (count - (i + 1))) ∙ (ap (λ j. n * 10 ^ j) (sym k) ∙ e)
-
-pub zeros-all : (n count i total : ℕ) → count ≤ i → n * 10 ^ (count - i) ≡ total → total ≡ n
-zeros-all n count i total le e = let k : count - i ≡ 0 = omega arith in sym e ∙ (ap (λ j. n * 10 ^ j) k ∙ omega arith)
-
--- a number that is too great for one zero more
-pub zeros-above : (n count i total : ℕ) → i < count → 9 * 10 ^ 17 < n → n * 10 ^ (count - i) ≡ total → 9 * 10 ^ 18 < total
-zeros-above n count i total lt great e =
-    let m = zeros-more n count i total lt e in
-    let p : (n * 10) * 1 ≤ (n * 10) * 10 ^ (count - (i + 1)) = mul-le (n * 10) 1 (n * 10) (10 ^ (count - (i + 1))) (omega arith) (ten_pow-pos (count - (i + 1))) in
-    omega (arith, m, p)
+-- too many of them
+pub zeros-far : (n count : ℕ) → 1 ≤ n → 18 < count → 9 * 10 ^ 18 < n * 10 ^ count
+unfolding scaled
+zeros-far n count some far = scaled-great n count some (omega arith)
 
 -- ---- the value of the digits that are kept
 

@@ -9,6 +9,9 @@ ghost use Rattle.scan.specs.Rounding.{in_range, kept_value};
 /// The greatest absolute value of a fixed-point number, in 10^-10.
 const MOST: u64 = 9_000_000_000_000_000_000;
 
+/// How many zeros a number in range can have after a digit that is not 0.
+const MOST_ZEROS: u64 = 18;
+
 /// A number with these digits behind its own, where that is in range.
 fn with_digits(number: u64, digits: &[u8]) -> Option<u64>
     requires range { number ≤ 9 * 10 ^ 18 }
@@ -25,22 +28,19 @@ fn with_digits(number: u64, digits: &[u8]) -> Option<u64>
     if number <= MOST { Some(number) } else { None }
 }
 
-/// A number with so many zeros behind its digits, where that is in range.
+/// A number with so many zeros after its digits, where that is in range. The zeros are not gone over:
+/// an exponent may ask for 2^64 of them.
 fn with_zeros(number: u64, count: u64) -> Option<u64>
-    requires { number ≤ 9 * 10 ^ 18 }
     ensures { result ≡ in_range (number * 10 ^ count) }
 {
     if number == 0 {
         return Some(0);
     }
-    let mut number = number;
-    for zero in 0..count {
-        if number > MOST / 10 {
-            return None;
-        }
-        number *= 10;
+    if count > MOST_ZEROS {
+        return None;
     }
-    Some(number)
+    let product = number.checked_mul(10u64.pow(count as u32))?;
+    if product <= MOST { Some(product) } else { None }
 }
 
 /// The first digits, at most so many.
