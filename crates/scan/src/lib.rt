@@ -17,6 +17,3 @@ pub use print::print_fixed;
 pub use scan_defs::{NumberFault, Token};
 pub use scanning::Scan;
 pub use whole::{read_int, read_uint};
-
-#[cfg(test)]
-mod tests;
