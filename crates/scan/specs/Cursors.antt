@@ -1,5 +1,6 @@
 -- A cursor in bytes.
 use Rattle.std.specs.Prelude.{◌≡◌, ℕ, ◌+◌, ◌≤◌, ◌||◌, Bool, List, length}
+use Rattle.plex_base.specs.declared.limits.TheConstants.{MAX_FILE_BYTES}
 use Rattle.line_defs.specs.Rows.{is_blank, is_newline}
 use Rattle.scan_defs.specs.declared.Token.{Token}
 use Rattle.scan_defs.specs.Lines.{line_number, is_indent, rest_of_line, back}
@@ -20,7 +21,7 @@ pub record IsAt (bytes : List ℕ) (at : Cursor) : Type 0 where
   pub indent : at.is_indent ≡ is_indent bytes at.place
 
 pub record IsScan (bytes : List ℕ) (at : Cursor) : Type 0 where
-  pub short : length bytes ≤ 268435456
+  pub short : length bytes ≤ MAX_FILE_BYTES
   pub is_at : IsAt bytes at
 
 -- the token is a part of the bytes

@@ -9,6 +9,7 @@ ghost use Rattle.scan_defs.specs.Quotes.{quoted_from};
 ghost use Rattle.scan_defs.specs.Steps.{next_header, ahead_after_header};
 ghost use Rattle.scan.specs.Cursors.{IsAt, IsWithin, is_gap, spot, header_name};
 
+use plex_base::MAX_FILE_BYTES;
 use scan_defs::Token;
 
 /// A place in the bytes of a file.
@@ -43,7 +44,7 @@ fn is_gap(byte: u8) -> bool
 
 /// The next place at which neither a blank nor an LF stands, or the end.
 pub fn past_gaps(bytes: &[u8], from: Cursor) -> Cursor
-    requires short { length bytes.now ≤ 268435456 }
+    requires short { length bytes.now ≤ MAX_FILE_BYTES }
     requires from { IsAt bytes.now from }
     ensures at { IsAt bytes.now result }
     ensures ahead { ahead (spot bytes.now result.place) ≡ ahead (spot bytes.now from.place) }
@@ -143,7 +144,7 @@ pub fn past_token(bytes: &[u8], at: Cursor) -> Cursor
 
 /// At the `$` of the next header line, or at the end.
 pub fn past_body(bytes: &[u8], from: Cursor) -> Cursor
-    requires short { length bytes.now ≤ 268435456 }
+    requires short { length bytes.now ≤ MAX_FILE_BYTES }
     requires from { IsAt bytes.now from }
     ensures at { IsAt bytes.now result }
     ensures goes_on { from.place ≤ result.place }
@@ -160,7 +161,7 @@ pub fn past_body(bytes: &[u8], from: Cursor) -> Cursor
 
 /// Behind the header line at whose `$` a cursor stands.
 pub fn past_header(bytes: &[u8], at: Cursor) -> Cursor
-    requires short { length bytes.now ≤ 268435456 }
+    requires short { length bytes.now ≤ MAX_FILE_BYTES }
     requires at { IsAt bytes.now at }
     requires inside { at.place < length bytes.now }
     requires header { (at.is_indent && (get_or bytes.now at.place 0 == 36)) ≡ true }

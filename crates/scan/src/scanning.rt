@@ -11,6 +11,7 @@ use crate::cursor::{
     Cursor, begins_token, line_end, name_at, past_body, past_gaps, past_header, past_token,
     trimmed_end,
 };
+use plex_base::MAX_FILE_BYTES;
 use scan_defs::Token;
 use std::marker::Model;
 
@@ -39,7 +40,7 @@ impl<'a> Model for Scan<'a> {
 impl<'a> Scan<'a> {
     /// A scan of a file of at most 268,435,456 bytes, from its beginning.
     pub fn new(bytes: &'a [u8]) -> Scan<'a>
-        requires { length bytes.now ≤ 268435456 }
+        requires { length bytes.now ≤ MAX_FILE_BYTES }
         ensures { result ≡ record { bytes = bytes.now; place = 0 } }
     {
         Scan {

@@ -5,6 +5,7 @@ ghost use Rattle.scan_defs.specs.Items.{items, ahead, body, behind_body};
 ghost use Rattle.scan_defs.specs.Numbers.{fixed_of};
 ghost use Rattle.scan_count.specs.Counting.{is_word, is_coordinate, is_nodes, coordinates_where, all_coordinates, sum_with, sum_in, IsStep, AreFew};
 
+use plex_base::MAX_FILE_BYTES;
 use scan::{NumberFault, Scan, read_fixed};
 
 /// How many tokens there are, and the sum of the coordinates in 10^-10.
@@ -53,7 +54,7 @@ fn plus(sum: i128, value: i64) -> i128
 /// number.
 fn count_body(scan: &mut Scan<'_>, counts: Counts, in_nodes: bool) -> Result<Counts, NumberFault>
     requires few { AreFew scan.old.place counts }
-    requires short { length scan.old.bytes ≤ 268435456 }
+    requires short { length scan.old.bytes ≤ MAX_FILE_BYTES }
     requires inside { scan.old.place ≤ length scan.old.bytes }
     ensures bytes { scan.new.bytes ≡ scan.old.bytes }
     ensures inside { scan.new.place ≤ length scan.new.bytes }
@@ -79,7 +80,7 @@ fn count_body(scan: &mut Scan<'_>, counts: Counts, in_nodes: bool) -> Result<Cou
 /// The tokens of all bodies, and the sum of the coordinates in the sections Nodes. An `Err` says why
 /// a coordinate is no number.
 pub fn count(bytes: &[u8]) -> Result<Counts, NumberFault>
-    requires { length bytes.now ≤ 268435456 }
+    requires { length bytes.now ≤ MAX_FILE_BYTES }
     ensures tokens { IfOk result (λ counts. counts.tokens ≡ count_by is_word (items bytes.now)) }
     ensures sum { sum_in result ≡ sum_with (pos 0) (all_coordinates bytes.now (items bytes.now)) }
 {
