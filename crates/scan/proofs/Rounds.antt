@@ -11,7 +11,7 @@ use Rattle.std.proofs.Math.Nat.{pow-suc, pow-succ', pow-le-pow_right, mul_assoc}
 use Rattle.line_defs.specs.Numbers.{is_digit, number_of_digits}
 use Rattle.scan_defs.specs.Numbers.{scaled}
 use Rattle.scan_defs.proofs.Huge.{ten_pow-pos, number_of_digits-lt, scaled-zero, scaled-great, scaled-small, digits_below}
-use Rattle.scan.specs.Rounding.{in_range, kept_value, size_of}
+use Rattle.scan.specs.Rounding.{in_range, kept_value, magnitude_in_range}
 use Rattle.scan.proofs.Digits.{after, after-ge, digit_bounds}
 
 -- ---- in range or not
@@ -234,8 +234,8 @@ far-size ds keep k far great = elim (cases_lt 0 (number_of_digits ds)) [
 ]
 
 size-plus : (whole fraction : List ℕ) (power : ℕ) → list_all is_digit (whole ++ fraction) ≡ true → length whole + length fraction < 2 ^ 63
-    → in_range (scaled (number_of_digits (whole ++ fraction)) (shift false power (length fraction))) ≡ size_of whole fraction (record { minus = false; size = min power (2 ^ 64 - 1) })
-unfolding size_of
+    → in_range (scaled (number_of_digits (whole ++ fraction)) (shift false power (length fraction))) ≡ magnitude_in_range whole fraction (record { minus = false; size = min power (2 ^ 64 - 1) })
+unfolding magnitude_in_range
 size-plus whole fraction power all short =
     let n : length (whole ++ fraction) ≡ length whole + length fraction = length-append whole fraction in
     elim (cases_lt (2 ^ 64 - 1) (length whole + 10 + power)) [
@@ -249,8 +249,8 @@ size-plus whole fraction power all short =
     ]
 
 size-minus : (whole fraction : List ℕ) (power : ℕ) → list_all is_digit (whole ++ fraction) ≡ true → length whole + length fraction < 2 ^ 63
-    → in_range (scaled (number_of_digits (whole ++ fraction)) (shift true power (length fraction))) ≡ size_of whole fraction (record { minus = true; size = min power (2 ^ 64 - 1) })
-unfolding size_of
+    → in_range (scaled (number_of_digits (whole ++ fraction)) (shift true power (length fraction))) ≡ magnitude_in_range whole fraction (record { minus = true; size = min power (2 ^ 64 - 1) })
+unfolding magnitude_in_range
 size-minus whole fraction power all short =
     let n : length (whole ++ fraction) ≡ length whole + length fraction = length-append whole fraction in
     elim (cases_lt (length whole + 10) (min power (2 ^ 64 - 1))) [
@@ -266,7 +266,7 @@ size-minus whole fraction power all short =
           (ap in_range (kept-size (whole ++ fraction) (length whole + 10 - power) (shift true power (length fraction)) all (omega (arith, ints, n))))
     ]
 
-pub size-is : (whole fraction : List ℕ) (minus : Bool) (power : ℕ) → list_all is_digit (whole ++ fraction) ≡ true → length whole + length fraction < 2 ^ 63
-    → in_range (scaled (number_of_digits (whole ++ fraction)) (shift minus power (length fraction))) ≡ size_of whole fraction (record { minus = minus; size = min power (2 ^ 64 - 1) })
-size-is whole fraction true power all short = size-minus whole fraction power all short
-size-is whole fraction false power all short = size-plus whole fraction power all short
+pub magnitude-is : (whole fraction : List ℕ) (minus : Bool) (power : ℕ) → list_all is_digit (whole ++ fraction) ≡ true → length whole + length fraction < 2 ^ 63
+    → in_range (scaled (number_of_digits (whole ++ fraction)) (shift minus power (length fraction))) ≡ magnitude_in_range whole fraction (record { minus = minus; size = min power (2 ^ 64 - 1) })
+magnitude-is whole fraction true power all short = size-minus whole fraction power all short
+magnitude-is whole fraction false power all short = size-plus whole fraction power all short

@@ -5,13 +5,13 @@ use Rattle.std.proofs.lemmas.Bool.{lt-ltb, le-ltb, and_parts, cases_lt}
 use Rattle.std.proofs.lemmas.List.{length-take, length-drop}
 use Rattle.line_defs.specs.Numbers.{is_digit, number_of_digits}
 use Rattle.scan_defs.specs.declared.NumberFault.TheVariants.{NotNumber, OutOfRange}
-use Rattle.scan_defs.specs.Numbers.{is_whole, is_sign, is_minus, unsigned, signed, Decimal, is_mark, is_point, mantissa, exponent, has_exponent, whole_part, fraction, is_fixed, power, decimal_of, scaled, fixed_value, fixed_of}
+use Rattle.scan_defs.specs.Numbers.{is_whole, is_sign, is_minus, unsigned, signed, Decimal, is_mark, is_decimal_point, mantissa, exponent, has_exponent, whole_part, fraction, is_fixed, power, decimal_of, scaled, fixed_value, fixed_of}
 use Rattle.scan_defs.proofs.Huge.{value-is, value-out}
 use Rattle.scan.specs.declared.parts.Power.{Power}
 use Rattle.scan.specs.declared.parts.Parts.{Parts}
 use Rattle.scan.specs.Parts.{behind_first, power_read, HasParts}
-use Rattle.scan.specs.Rounding.{in_range, size_of}
-use Rattle.scan.proofs.Rounds.{in_range-some, in_range-none, size-is}
+use Rattle.scan.specs.Rounding.{in_range, magnitude_in_range}
+use Rattle.scan.proofs.Rounds.{in_range-some, in_range-none, magnitude-is}
 
 -- ---- whether there is an exponent
 
@@ -139,7 +139,7 @@ pub length-parts : (token : List ℕ) → length (whole_part token) + length (fr
 length-parts token =
     let a = length-unsigned token in
     let b = length-both is_mark (unsigned token) in
-    let c = length-both is_point (mantissa token) in
+    let c = length-both is_decimal_point (mantissa token) in
     omega (arith, a, b, c)
 
 -- ---- values
@@ -157,27 +157,27 @@ decimal-is : (token : List ℕ) → is_fixed token ≡ true → fixed_of token �
 unfolding decimal_of fixed_of
 decimal-is token e = rw e refl
 
-pub size-exact : (token : List ℕ) (parts : Parts) → HasParts token parts → length token < 2 ^ 63
-    → in_range (scaled (number_of_digits (whole_part token ++ fraction token)) ((power token -ℤ pos (length (fraction token))) +ℤ pos 10)) ≡ size_of parts.whole.now parts.fraction.now parts.power
-size-exact token parts h short =
+pub magnitude-exact : (token : List ℕ) (parts : Parts) → HasParts token parts → length token < 2 ^ 63
+    → in_range (scaled (number_of_digits (whole_part token ++ fraction token)) ((power token -ℤ pos (length (fraction token))) +ℤ pos 10)) ≡ magnitude_in_range parts.whole.now parts.fraction.now parts.power
+magnitude-exact token parts h short =
     let p = power-is token parts.power h.power in
     let all = digits-of token parts h in
     let n = length-parts token in
     let e : in_range (scaled (number_of_digits (whole_part token ++ fraction token)) ((signed parts.power.minus p.size -ℤ pos (length (fraction token))) +ℤ pos 10))
-    ≡ size_of (whole_part token) (fraction token) (record { minus = parts.power.minus; size = min p.size (2 ^ 64 - 1) })
-    = size-is (whole_part token) (fraction token) parts.power.minus p.size (rw (h.whole, h.fraction) at all) (omega arith) in
-    rw (p.value, h.whole, h.fraction) (e ∙ ap (λ (s : ℕ). size_of (whole_part token) (fraction token) (record { minus = parts.power.minus; size = s })) (sym p.capped))
+    ≡ magnitude_in_range (whole_part token) (fraction token) (record { minus = parts.power.minus; size = min p.size (2 ^ 64 - 1) })
+    = magnitude-is (whole_part token) (fraction token) parts.power.minus p.size (rw (h.whole, h.fraction) at all) (omega arith) in
+    rw (p.value, h.whole, h.fraction) (e ∙ ap (λ (s : ℕ). magnitude_in_range (whole_part token) (fraction token) (record { minus = parts.power.minus; size = s })) (sym p.capped))
 
 pub fixed-no : (token : List ℕ) → is_fixed token ≡ false → fixed_of token ≡ Err NotNumber
 unfolding decimal_of fixed_of
 fixed-no token e = rw e refl
 
-pub fixed-out : (token : List ℕ) (parts : Parts) → HasParts token parts → length token < 2 ^ 63 → None ≡ size_of parts.whole.now parts.fraction.now parts.power → fixed_of token ≡ Err OutOfRange
-fixed-out token parts h short none = decimal-is token h.fixed ∙ value-out (decimal-from token) (in_range-none _ (none ∙ sym (size-exact token parts h short)))
+pub fixed-out : (token : List ℕ) (parts : Parts) → HasParts token parts → length token < 2 ^ 63 → None ≡ magnitude_in_range parts.whole.now parts.fraction.now parts.power → fixed_of token ≡ Err OutOfRange
+fixed-out token parts h short none = decimal-is token h.fixed ∙ value-out (decimal-from token) (in_range-none _ (none ∙ sym (magnitude-exact token parts h short)))
 
-pub fixed-some : (token : List ℕ) (parts : Parts) (n : ℕ) → HasParts token parts → length token < 2 ^ 63 → Some n ≡ size_of parts.whole.now parts.fraction.now parts.power
+pub fixed-some : (token : List ℕ) (parts : Parts) (n : ℕ) → HasParts token parts → length token < 2 ^ 63 → Some n ≡ magnitude_in_range parts.whole.now parts.fraction.now parts.power
     → (n ≤ 9 * 10 ^ 18) × (fixed_of token ≡ Ok (signed parts.minus n))
 fixed-some token parts n h short some =
-    let r = in_range-some _ n (some ∙ sym (size-exact token parts h short)) in
+    let r = in_range-some _ n (some ∙ sym (magnitude-exact token parts h short)) in
     let le : n ≤ 9 * 10 ^ 18 = rw (← r.0) at r.1 in
     (le, decimal-is token h.fixed ∙ rw h.minus (value-is (decimal-from token) n (sym r.0) le))

@@ -19,10 +19,10 @@ kept_places whole power =
     then (if nat_le power.size (whole + 10) then Some (whole + 10 - power.size) else None)
     else Some (min (whole + 10 + power.size) (2 ^ 64 - 1))
 
-abbrev pub size_where : List ℕ → Option ℕ → Option ℕ
-size_where digits None = Some 0
-size_where digits (Some keep) = in_range (kept_value digits keep)
+abbrev pub magnitude_where : List ℕ → Option ℕ → Option ℕ
+magnitude_where digits None = Some 0
+magnitude_where digits (Some keep) = in_range (kept_value digits keep)
 
--- the absolute value in 10^-10, where it is in range
-unfoldable pub size_of : List ℕ → List ℕ → Power → Option ℕ
-size_of whole fraction power = size_where (whole ++ fraction) (kept_places (length whole) power)
+-- the value in 10^-10 without its sign, where it is in range
+unfoldable pub magnitude_in_range : List ℕ → List ℕ → Power → Option ℕ
+magnitude_in_range whole fraction power = magnitude_where (whole ++ fraction) (kept_places (length whole) power)

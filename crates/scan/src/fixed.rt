@@ -4,7 +4,7 @@ ghost use Rattle.std.specs.Prelude.{◌≡◌, ◌+◌, ◌*◌, ◌<◌, ◌≤
 ghost use Rattle.std.specs.List.{list_all};
 ghost use Rattle.line_defs.specs.Numbers.{is_digit};
 ghost use Rattle.scan_defs.specs.Numbers.{signed, fixed_of};
-ghost use Rattle.scan.specs.Rounding.{kept_places, size_of};
+ghost use Rattle.scan.specs.Rounding.{kept_places, magnitude_in_range};
 
 use crate::parts::{Parts, Power, split_parts};
 use crate::rounding::rounded;
@@ -24,13 +24,13 @@ fn kept(whole: u64, power: Power) -> Option<u64>
     }
 }
 
-/// The absolute value in 10^-10, where it is in range.
-#[tactic(auto, unfolding(crate::specs::Rounding::size_of))]
-fn size(parts: Parts<'_>) -> Option<u64>
+/// The value in 10^-10 without its sign, where it is in range.
+#[tactic(auto, unfolding(crate::specs::Rounding::magnitude_in_range))]
+fn magnitude(parts: Parts<'_>) -> Option<u64>
     requires length { length parts.whole.now + length parts.fraction.now < 2 ^ 63 }
     requires whole { IsTrue (list_all is_digit parts.whole.now) }
     requires fraction { IsTrue (list_all is_digit parts.fraction.now) }
-    ensures { result ≡ size_of parts.entry.whole.now parts.entry.fraction.now parts.entry.power }
+    ensures { result ≡ magnitude_in_range parts.entry.whole.now parts.entry.fraction.now parts.entry.power }
 {
     match kept(parts.whole.len() as u64, parts.power) {
         Some(keep) => rounded(parts.whole, parts.fraction, keep),
@@ -39,12 +39,12 @@ fn size(parts: Parts<'_>) -> Option<u64>
 }
 
 /// A value with its sign.
-fn signed(minus: bool, size: u64) -> i64
-    requires { size ≤ 9 * 10 ^ 18 }
-    ensures { result ≡ signed minus size }
+fn signed(minus: bool, magnitude: u64) -> i64
+    requires { magnitude ≤ 9 * 10 ^ 18 }
+    ensures { result ≡ signed minus magnitude }
 {
-    let size = size as i64;
-    if minus { -size } else { size }
+    let value = magnitude as i64;
+    if minus { -value } else { value }
 }
 
 /// A fixed-point number in 10^-10, of at most 9 * 10^18 without its sign.
@@ -59,8 +59,8 @@ pub fn read_fixed(t: &[u8]) -> Result<i64, NumberFault>
     let Some(parts) = split_parts(t) else {
         return Err(NumberFault::NotNumber);
     };
-    match size(parts) {
-        Some(size) => Ok(signed(parts.minus, size)),
+    match magnitude(parts) {
+        Some(magnitude) => Ok(signed(parts.minus, magnitude)),
         None => Err(NumberFault::OutOfRange),
     }
 }

@@ -3,7 +3,7 @@
 ghost use Rattle.std.specs.Prelude.{◌≡◌, ◌++◌, false, option_map, position, MatchOption};
 ghost use Rattle.std.specs.List.{list_all, before_first, after_first};
 ghost use Rattle.line_defs.specs.Numbers.{is_digit};
-ghost use Rattle.scan_defs.specs.Numbers.{is_whole, is_mark, is_point, is_fixed};
+ghost use Rattle.scan_defs.specs.Numbers.{is_whole, is_mark, is_decimal_point, is_fixed};
 ghost use Rattle.scan.specs.Parts.{behind_first, power_read, HasParts};
 
 use crate::whole::{is_digit, number_up_to_most, split_sign};
@@ -33,7 +33,7 @@ fn mark_place(bytes: &[u8]) -> Option<usize>
 
 /// The place of the first point.
 fn point_place(bytes: &[u8]) -> Option<usize>
-    ensures { result ≡ position is_point bytes.now }
+    ensures { result ≡ position is_decimal_point bytes.now }
 {
     bytes.iter().position(|b| *b == b'.')
 }
@@ -51,8 +51,8 @@ fn split_mark(bytes: &[u8]) -> (&[u8], Option<&[u8]>)
 
 /// What stands before the first point, and what stands behind it.
 fn split_point(bytes: &[u8]) -> (&[u8], &[u8])
-    ensures before { result.0.now ≡ before_first is_point bytes.now }
-    ensures behind { result.1.now ≡ after_first is_point bytes.now }
+    ensures before { result.0.now ≡ before_first is_decimal_point bytes.now }
+    ensures behind { result.1.now ≡ after_first is_decimal_point bytes.now }
 {
     match point_place(bytes) {
         Some(place) => (&bytes[..place], &bytes[place + 1..]),

@@ -55,8 +55,8 @@ pub record Decimal : Type 0 where
 abbrev pub is_mark : ℕ → Bool
 is_mark b = (b == 101) || (b == 69)
 
-abbrev pub is_point : ℕ → Bool
-is_point b = b == 46
+abbrev pub is_decimal_point : ℕ → Bool
+is_decimal_point b = b == 46
 
 -- before the exponent, without the sign; and the exponent, with its sign
 abbrev pub mantissa : List ℕ → List ℕ
@@ -70,10 +70,10 @@ has_exponent token = list_any is_mark (unsigned token)
 
 -- the digits before the point, and those behind it
 abbrev pub whole_part : List ℕ → List ℕ
-whole_part token = before_first is_point (mantissa token)
+whole_part token = before_first is_decimal_point (mantissa token)
 
 abbrev pub fraction : List ℕ → List ℕ
-fraction token = after_first is_point (mantissa token)
+fraction token = after_first is_decimal_point (mantissa token)
 
 -- An optional sign, then digits with at most one point among, before or behind them and at least one digit, then
 -- optionally `e` or `E`, an optional sign and at least one digit.

@@ -8,12 +8,12 @@ pub returns-in_default : goal.returns-in_default
 returns-in_default c = sym (fixed-no c.args.t.now c.in_default.ensures)
 
 pub signed-requires : goal.signed-requires
-signed-requires c = (fixed-some c.args.t.now c.in-Some.parts c.in-Some-size.size c.in-Some.ensures (omega arith) (sym c.in-Some-size.is ∙ c.size.ensures)).0
+signed-requires c = (fixed-some c.args.t.now c.in-Some.parts c.in-Some-magnitude.magnitude c.in-Some.ensures (omega arith) (sym c.in-Some-magnitude.is ∙ c.magnitude.ensures)).0
 
-pub returns-in-Some-size : goal.returns-in-Some-size
-returns-in-Some-size c =
-    let e = (fixed-some c.args.t.now c.in-Some.parts c.in-Some-size.size c.in-Some.ensures (omega arith) (sym c.in-Some-size.is ∙ c.size.ensures)).1 in
+pub returns-in-Some-magnitude : goal.returns-in-Some-magnitude
+returns-in-Some-magnitude c =
+    let e = (fixed-some c.args.t.now c.in-Some.parts c.in-Some-magnitude.magnitude c.in-Some.ensures (omega arith) (sym c.in-Some-magnitude.is ∙ c.magnitude.ensures)).1 in
     ap Ok (to_z-of_z w64 c.signed.result (search rules)) ∙ ap Ok c.signed.ensures ∙ sym e
 
 pub returns-in-None : goal.returns-in-None
-returns-in-None c = sym (fixed-out c.args.t.now c.in-Some.parts c.in-Some.ensures (omega arith) (sym c.in-None.is ∙ c.size.ensures))
+returns-in-None c = sym (fixed-out c.args.t.now c.in-Some.parts c.in-Some.ensures (omega arith) (sym c.in-None.is ∙ c.magnitude.ensures))
