@@ -26,7 +26,7 @@ unfoldable pub coordinate : List ℕ → Option ℤ
 coordinate [] = None
 coordinate (b ∷ bs) = if b == 45 then option_map neg_ℤ (whole_fixed bs) else whole_fixed (b ∷ bs)
 
--- the digits of rest * 10^-places behind the point, without zeros at the end
+-- the digits of rest * 10^-places after the point, without zeros at the end
 unfoldable pub fraction_digits : ℕ → ℕ → List ℕ
 fraction_digits zero rest = []
 fraction_digits (suc places) rest = if rest == 0 then [] else (48 + rest / 10 ^ places) ∷ fraction_digits places (rest % 10 ^ places)

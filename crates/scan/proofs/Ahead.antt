@@ -91,7 +91,7 @@ over-blank indent place line b bytes other is = rw other (over-blank-lines inden
 
 -- ---- a token
 
--- the first line of what is left, and the lines behind it
+-- the first line of what is left, and the lines after it
 abbrev pub first-line : List ℕ → List ℕ
 first-line bytes = take (position_or_len is_newline bytes) bytes
 
@@ -140,12 +140,12 @@ over-token indent place line k bytes is some other =
     let le : k ≤ length text = rw (← run) at (prefix_len-le-length (λ b. not (is_blank b)) text) in
     let d : length (drop k text) ≡ length text - k = length-drop k text in
     let lines : lines_of (drop k bytes) ≡ drop k text ∷ others (lines_of bytes) = lines-from k bytes (omega arith) in
-    let behind : place + k + length (drop k text) + 1 ≡ place + length text + 1 = omega arith in
+    let next : place + k + length (drop k text) + 1 ≡ place + length text + 1 = omega arith in
     let words : words_on (at place line text) ≡ Word (record { start = place; end = place + k; line = line }) ∷ words_on (at (place + k) line (drop k text)) = ap (map Word) (token-first place line k text run some) in
     let blank : is_blank (get_or text 0 0) ≡ false = fails_before_first is_blank text 0 0 (omega (arith, run)) in
     let same : get_or text 0 0 ≡ get_or bytes 0 0 = get_or-take m bytes 0 0 (omega arith) in
     let first : cond indent (items_on (at place line text)) (words_on (at place line text)) ≡ words_on (at place line text) = first-words indent place line text blank (rw (← same) at other) in
-    rw (lines-first bytes, lines, behind) (ap (λ (front : List Item). front ++ flat_map items_on (lines_at (place + length text + 1) (line + 1) (others (lines_of bytes)))) (first ∙ words))
+    rw (lines-first bytes, lines, next) (ap (λ (front : List Item). front ++ flat_map items_on (lines_at (place + length text + 1) (line + 1) (others (lines_of bytes)))) (first ∙ words))
 
 -- ---- a header line
 

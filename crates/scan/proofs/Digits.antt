@@ -8,7 +8,7 @@ use Rattle.std.proofs.lemmas.List.{drop_more, drop_all}
 use Rattle.std.proofs.lemmas.List.Sums.{AllPass-from_list_all}
 use Rattle.line_defs.specs.Numbers.{is_digit, number_of_digits}
 
--- the number with the digits behind it
+-- the number with the digits after it
 abbrev pub after : ℕ → List ℕ → ℕ
 after n digits = number_from_digits_after 10 n (map (λ b. b - 48) digits)
 

@@ -87,7 +87,7 @@ at-blank bytes c at lt other is = record {
   indent = at.indent ∙ sym (indent-blank bytes c.place lt other is);
 }
 
--- behind bytes of one line, the first of which is no blank
+-- after bytes of one line, the first of which is no blank
 pub at-run : (bytes : List ℕ) (c : Cursor) (end : ℕ) → IsAt bytes c → c.place < end → end ≤ length bytes → ((j : ℕ) → c.place + j < end → is_newline (get_or bytes (c.place + j) 0) ≡ false) → is_blank (get_or bytes c.place 0) ≡ false
     → IsAt bytes (record { place = end; line = c.line; is_indent = false })
 at-run bytes c end at lt le h ink =
@@ -311,7 +311,7 @@ line-slice bytes p end is =
     let k : end - p ≡ position_or_len is_newline (drop p bytes) = omega arith in
     ap (λ n. take n (drop p bytes)) k
 
--- the name ends behind its `$` and within the bytes
+-- the name ends after its `$` and within the bytes
 pub name-within : (bytes : List ℕ) (c : Cursor) → IsAt bytes c → c.place < length bytes → (c.is_indent && eqb (get_or bytes c.place 0) 36) ≡ true → IsWithin bytes (header_name bytes c)
 name-within bytes c at lt dollar =
     let parts = both c.is_indent (eqb (get_or bytes c.place 0) 36) dollar in

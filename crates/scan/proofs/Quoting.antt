@@ -214,7 +214,7 @@ quoted-some place line last text f e =
       inside = let l = both-are.1 in omega arith;
     }
 
--- ---- the items behind the tokens of a line
+-- ---- the items after the tokens of a line
 
 skip-token : (b : Bool) (n : ℕ) (t : Token) (tokens : List Token) (rest : List Item) → t.line ≡ n → behind_items_on n (map Word tokens ++ rest) ≡ behind_items_on n rest
     → behind_items_on n (map Word (cond b (t ∷ []) [] ++ tokens) ++ rest) ≡ behind_items_on n rest

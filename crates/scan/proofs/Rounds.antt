@@ -36,7 +36,7 @@ none-at false n e s = leb-false n (9 * 10 ^ 18) e
 pub in_range-none : (n : ℕ) → None ≡ in_range n → 9 * 10 ^ 18 < n
 in_range-none n s = none-at (leb n (9 * 10 ^ 18)) n refl s
 
--- ---- zeros behind a number
+-- ---- zeros after a number
 
 pub times-ten : (n k : ℕ) → n * 10 ^ (k + 1) ≡ (n * 10) * 10 ^ k
 times-ten n k =
@@ -94,7 +94,7 @@ div-is n r d some low high =
     let b = div_below n d (r + 1) some high in
     omega arith
 
--- ten digits' worth p of the first digit x that is cut off behind q
+-- ten digits' worth p of the first digit x that is cut off after q
 rounds-up : (q x p m : ℕ) → 1 ≤ p → 5 ≤ x → x ≤ 9 → (q * 10 + x) * p ≤ m → m < (q * 10 + x + 1) * p → (2 * m + 10 * p) / (2 * (10 * p)) ≡ q + 1
 rounds-up q x p m some up nine low high =
     let l : (q * 10 + x) * p ≡ 10 * (q * p) + x * p = grind arith in
@@ -149,7 +149,7 @@ all-take (d ∷ ds) (suc k) all = let both = and_parts (is_digit d) (list_all is
 
 -- ---- the steps by which the kept digits are read
 
--- the number is out of range after the digits before the point, after those behind it, or after the zeros
+-- the number is out of range with the digits before the point, with those after it, or with the zeros
 pub kept-none-whole : (whole fraction : List ℕ) (keep : ℕ) → None ≡ in_range (after 0 (take keep whole)) → None ≡ in_range (kept_value (whole ++ fraction) keep)
 kept-none-whole whole fraction keep e =
     let a : ℕ = after 0 (take keep whole) in
@@ -197,11 +197,11 @@ kept-above value n d k ge le = range-none value (rw (k.0, le-leb 53 d ge) (omega
 
 -- ---- the size of a number with this power of ten
 
--- the exponent of ten, less the digits behind the point, in 10^-10
+-- the exponent of ten, less the digits after the point, in 10^-10
 abbrev pub shift : Bool → ℕ → ℕ → ℤ
 shift minus power places = (cond minus (neg_ℤ (pos power)) (pos power) -ℤ pos places) +ℤ pos 10
 
--- digits that reach so far behind the point that none is kept
+-- digits that reach so far after the point that none is kept
 scaled-none : (ds : List ℕ) (k : ℕ) → list_all is_digit ds ≡ true → length ds ≤ k → scaled (number_of_digits ds) (negsuc k) ≡ 0
 scaled-none ds k all le =
     let m : number_of_digits ds < 10 ^ length ds = number_of_digits-lt ds all in

@@ -9,7 +9,7 @@ use Rattle.line_defs.specs.Rows.{is_blank, is_newline, onto_first, parts}
 use Rattle.scan_defs.specs.Lines.{front, back}
 use Rattle.scan.specs.Cursors.{is_gap}
 
--- the parts behind the first
+-- the parts after the first
 abbrev pub others : List (List ℕ) → List (List ℕ)
 others [] = []
 others (part ∷ parts) = parts

@@ -9,7 +9,7 @@ use Rattle.scan_defs.specs.Numbers.{is_whole, is_sign, is_minus, unsigned, signe
 use Rattle.scan_defs.proofs.Huge.{value-is, value-out}
 use Rattle.scan.specs.declared.parts.Power.{Power}
 use Rattle.scan.specs.declared.parts.Parts.{Parts}
-use Rattle.scan.specs.Parts.{behind_first, power_read, HasParts}
+use Rattle.scan.specs.Parts.{text_after_first, power_read, HasParts}
 use Rattle.scan.specs.Rounding.{in_range, magnitude_in_range}
 use Rattle.scan.proofs.Rounds.{in_range-some, in_range-none, magnitude-is}
 
@@ -27,7 +27,7 @@ any-place test [] = refl
 any-place test (x ∷ xs) = any-cons (test x) (list_any test xs) (position_or_len test xs) (length xs) (any-place test xs)
 
 abbrev Marks : List ℕ → Type 0
-Marks u = ((list_any is_mark u ≡ false) × (behind_first is_mark u ≡ None)) ⊎ ((list_any is_mark u ≡ true) × (behind_first is_mark u ≡ Some (after_first is_mark u)))
+Marks u = ((list_any is_mark u ≡ false) × (text_after_first is_mark u ≡ None)) ⊎ ((list_any is_mark u ≡ true) × (text_after_first is_mark u ≡ Some (after_first is_mark u)))
 
 marks-at : (u : List ℕ) (b : Bool) → ltb (position_or_len is_mark u) (length u) ≡ b → Marks u
 marks-at u true e = inr (any-place is_mark u ∙ e, rw e refl)
@@ -54,7 +54,7 @@ not-digits token whole part w f none =
 fixed-at : (d h p : Bool) → d ≡ true → h ≡ true → p ≡ false → (d && (not h || p)) ≡ false
 fixed-at d h p a b c = rw (a, b, c) refl
 
-pub not-power : (token : List ℕ) → is_whole (whole_part token ++ fraction token) ≡ true → None ≡ power_read (behind_first is_mark (unsigned token)) → is_fixed token ≡ false
+pub not-power : (token : List ℕ) → is_whole (whole_part token ++ fraction token) ≡ true → None ≡ power_read (text_after_first is_mark (unsigned token)) → is_fixed token ≡ false
 not-power token digits none = elim (marks (unsigned token)) [
   | inl free ↦ let e = rw free.1 at none in absurd (cc e)
   | inr marked ↦ let e = rw marked.1 at none in fixed-at (is_whole (whole_part token ++ fraction token)) (has_exponent token) (is_whole (unsigned (exponent token))) digits marked.0 (cond-none (is_whole (unsigned (exponent token))) _ e)
@@ -62,7 +62,7 @@ not-power token digits none = elim (marks (unsigned token)) [
 
 -- ---- tokens of this shape
 
--- the number behind `e`, and how it was read
+-- the number after `e`, and how it was read
 pub record HasPower (token : List ℕ) (read : Power) : Type 0 where
   pub size : ℕ
   pub value : power token ≡ signed read.minus size
@@ -82,7 +82,7 @@ value-none h x e = rw e refl
 value-some : (h : Bool) (x : ℤ) → h ≡ true → cond h x (pos 0) ≡ x
 value-some h x e = rw e refl
 
-pub power-is : (token : List ℕ) (read : Power) → Some read ≡ power_read (behind_first is_mark (unsigned token)) → HasPower token read
+pub power-is : (token : List ℕ) (read : Power) → Some read ≡ power_read (text_after_first is_mark (unsigned token)) → HasPower token read
 power-is token read e = elim (marks (unsigned token)) [
   | inl free ↦
       let s = rw free.1 at e in
@@ -105,7 +105,7 @@ power-is token read e = elim (marks (unsigned token)) [
 ]
 
 pub has-parts : (token : List ℕ) (parts : Parts) → parts.minus ≡ is_minus token → parts.whole.now ≡ whole_part token → parts.fraction.now ≡ fraction token
-    → is_whole (parts.whole.now ++ parts.fraction.now) ≡ true → Some parts.power ≡ power_read (behind_first is_mark (unsigned token)) → HasParts token parts
+    → is_whole (parts.whole.now ++ parts.fraction.now) ≡ true → Some parts.power ≡ power_read (text_after_first is_mark (unsigned token)) → HasParts token parts
 has-parts token parts m w f digits p =
     let e : is_whole (whole_part token ++ fraction token) ≡ true = rw (w, f) at digits in
     record {

@@ -5,11 +5,11 @@ use Rattle.scan_defs.specs.Numbers.{is_whole, is_minus, unsigned, is_mark, is_fi
 use Rattle.scan.specs.declared.parts.Power.{Power}
 use Rattle.scan.specs.declared.parts.Parts.{Parts}
 
--- what stands behind the first byte that passes, where there is one
-abbrev pub behind_first : (ℕ → Bool) → List ℕ → Option (List ℕ)
-behind_first test bytes = option_map (λ place. drop (place + 1) bytes) (position test bytes)
+-- what stands after the first byte that passes, where there is one
+abbrev pub text_after_first : (ℕ → Bool) → List ℕ → Option (List ℕ)
+text_after_first test bytes = option_map (λ place. drop (place + 1) bytes) (position test bytes)
 
--- the power of ten behind `e`, where one is written there; 0 without an `e`
+-- the power of ten after `e`, where one is written there; 0 without an `e`
 abbrev pub power_read : Option (List ℕ) → Option Power
 power_read None = Some (record { minus = false; size = 0 })
 power_read (Some text) = if is_whole (unsigned text) then Some (record { minus = is_minus text; size = min (number_of_digits (unsigned text)) (2 ^ 64 - 1) }) else None
@@ -19,4 +19,4 @@ pub record HasParts (token : List ℕ) (parts : Parts) : Type 0 where
   pub minus : parts.minus ≡ is_minus token
   pub whole : parts.whole.now ≡ whole_part token
   pub fraction : parts.fraction.now ≡ fraction token
-  pub power : Some parts.power ≡ power_read (behind_first is_mark (unsigned token))
+  pub power : Some parts.power ≡ power_read (text_after_first is_mark (unsigned token))

@@ -7,7 +7,7 @@ use Rattle.scan.specs.declared.parts.Power.{Power}
 abbrev pub in_range : ℕ → Option ℕ
 in_range n = if nat_le n (9 * 10 ^ 18) then Some n else None
 
--- The first `keep` digits as a number, with zeros behind them where they are fewer; 1 more where the digit behind them is
+-- The first `keep` digits as a number, with zeros after them where they are fewer; 1 more where the digit after them is
 -- 5 or more.
 unfoldable pub kept_value : List ℕ → ℕ → ℕ
 kept_value digits keep = number_of_digits (take keep digits) * 10 ^ (keep - length digits) + (if nat_le 53 (get_or digits keep 48) then 1 else 0)

@@ -1,4 +1,4 @@
-//! A cursor in the bytes of a file, and the ends of what stands behind it.
+//! A cursor in the bytes of a file, and the ends of what stands after it.
 
 ghost use Rattle.std.specs.Prelude.{◌≡◌, ◌==◌, ◌&&◌, ◌+◌, ◌<◌, ◌≤◌, ◌∷◌, length, get_or, drop, nat_lt, not, true, false};
 ghost use Rattle.std.specs.List.{position_or_len};
@@ -111,7 +111,7 @@ pub fn line_end(bytes: &[u8], place: usize) -> usize
     end
 }
 
-/// The place behind the last byte of a part of a line that is no blank.
+/// The place after the last byte of a part of a line that is no blank.
 pub fn trimmed_end(text: &[u8]) -> usize
     ensures { result ≡ back text.now }
 {
@@ -125,7 +125,7 @@ pub fn trimmed_end(text: &[u8]) -> usize
     end
 }
 
-/// Behind the token that begins at a place.
+/// After the token that begins at a place.
 pub fn past_token(bytes: &[u8], at: Cursor) -> Cursor
     requires at { IsAt bytes.now at }
     requires inside { at.place < length bytes.now }
@@ -159,7 +159,7 @@ pub fn past_body(bytes: &[u8], from: Cursor) -> Cursor
     at
 }
 
-/// Behind the header line at whose `$` a cursor stands.
+/// After the header line at whose `$` a cursor stands.
 pub fn past_header(bytes: &[u8], at: Cursor) -> Cursor
     requires short { length bytes.now ≤ MAX_FILE_BYTES }
     requires at { IsAt bytes.now at }

@@ -49,7 +49,7 @@ fn signed(minus: bool, magnitude: u64) -> i64
 
 /// A fixed-point number in 10^-10, of at most 9 * 10^18 without its sign.
 ///
-/// A token is an optional sign, then digits with at most one point among, before or behind them and
+/// A token is an optional sign, then digits with at most one point among, before or after them and
 /// at least one digit, then optionally `e` or `E`, an optional sign and at least one digit. Its
 /// exact value is rounded half away from zero. An `Err` is `NotNumber` where the token has another
 /// shape, else `OutOfRange`. The time is linear in the token's length, whatever its exponent.

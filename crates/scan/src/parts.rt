@@ -4,18 +4,18 @@ ghost use Rattle.std.specs.Prelude.{◌≡◌, ◌++◌, false, option_map, posi
 ghost use Rattle.std.specs.List.{list_all, before_first, after_first};
 ghost use Rattle.line_defs.specs.Numbers.{is_digit};
 ghost use Rattle.scan_defs.specs.Numbers.{is_whole, is_mark, is_decimal_point, is_fixed};
-ghost use Rattle.scan.specs.Parts.{behind_first, power_read, HasParts};
+ghost use Rattle.scan.specs.Parts.{text_after_first, power_read, HasParts};
 
 use crate::whole::{is_digit, number_up_to_most, split_sign};
 
-/// The number behind `e`: whether it has a minus, and its size, or 2^64 - 1 where that is above.
+/// The number after `e`: whether it has a minus, and its size, or 2^64 - 1 where that is above.
 #[derive(Clone, Copy)]
 pub struct Power {
     pub minus: bool,
     pub size: u64,
 }
 
-/// The parts of a fixed-point number: its sign, the digits before and behind the point, and its power of ten.
+/// The parts of a fixed-point number: its sign, the digits before and after the point, and its power of ten.
 #[derive(Clone, Copy)]
 pub struct Parts<'a> {
     pub minus: bool,
@@ -38,10 +38,10 @@ fn point_place(bytes: &[u8]) -> Option<usize>
     bytes.iter().position(|b| *b == b'.')
 }
 
-/// What stands before the first `e` or `E`, and what stands behind it.
+/// What stands before the first `e` or `E`, and what stands after it.
 fn split_mark(bytes: &[u8]) -> (&[u8], Option<&[u8]>)
     ensures before { result.0.now ≡ before_first is_mark bytes.now }
-    ensures behind { option_map (λ r. r.now) result.1 ≡ behind_first is_mark bytes.now }
+    ensures after { option_map (λ r. r.now) result.1 ≡ text_after_first is_mark bytes.now }
 {
     match mark_place(bytes) {
         Some(place) => (&bytes[..place], Some(&bytes[place + 1..])),
@@ -49,10 +49,10 @@ fn split_mark(bytes: &[u8]) -> (&[u8], Option<&[u8]>)
     }
 }
 
-/// What stands before the first point, and what stands behind it.
+/// What stands before the first point, and what stands after it.
 fn split_point(bytes: &[u8]) -> (&[u8], &[u8])
     ensures before { result.0.now ≡ before_first is_decimal_point bytes.now }
-    ensures behind { result.1.now ≡ after_first is_decimal_point bytes.now }
+    ensures after { result.1.now ≡ after_first is_decimal_point bytes.now }
 {
     match point_place(bytes) {
         Some(place) => (&bytes[..place], &bytes[place + 1..]),
@@ -66,7 +66,7 @@ fn are_digits(bytes: &[u8]) -> bool
     bytes.iter().all(|byte| is_digit(*byte))
 }
 
-/// Whether there are digits before or behind the point, and nothing else.
+/// Whether there are digits before or after the point, and nothing else.
 fn are_some_digits(whole: &[u8], fraction: &[u8]) -> bool
     ensures { result ≡ is_whole (whole.now ++ fraction.now) }
 {
@@ -76,7 +76,7 @@ fn are_some_digits(whole: &[u8], fraction: &[u8]) -> bool
     are_digits(whole) && are_digits(fraction)
 }
 
-/// The power of ten that is written behind `e`, or 0 where there is no `e`.
+/// The power of ten that is written after `e`, or 0 where there is no `e`.
 fn read_power(exponent: Option<&[u8]>) -> Option<Power>
     ensures { result ≡ power_read (option_map (λ text. text.now) exponent.entry) }
 {

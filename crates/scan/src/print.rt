@@ -10,7 +10,7 @@ use std::alloc::AllocError;
 /// Fixed-point values are whole multiples of the 10^10th part of 1.
 const UNIT: u128 = 10_000_000_000;
 
-/// The digits behind the point of `rest` times 10^-10, without zeros at the end.
+/// The digits after the point of `rest` times 10^-10, without zeros at the end.
 fn append_fraction(rest: u64, to: &mut Vec<u8>) -> Result<(), AllocError>
     requires { rest < 10 ^ 10 }
     ensures text { OnOk result (to.new.items ≡ to.old.items ++ fraction_digits 10 rest) }

@@ -12,7 +12,7 @@ const MOST: u64 = 9_000_000_000_000_000_000;
 /// How many zeros a number in range can have after a digit that is not 0.
 const MOST_ZEROS: u64 = 18;
 
-/// A number with these digits behind its own, where that is in range.
+/// A number with these digits after its own, where that is in range.
 fn with_digits(number: u64, digits: &[u8]) -> Option<u64>
     requires range { number ≤ 9 * 10 ^ 18 }
     requires digits { IsTrue (list_all is_digit digits.now) }
@@ -54,7 +54,7 @@ fn first(digits: &[u8], count: u64) -> &[u8]
     }
 }
 
-/// The digit at a place of `whole` and then `fraction`, or `0` behind them.
+/// The digit at a place of `whole` and then `fraction`, or `0` after them.
 fn digit_at(whole: &[u8], fraction: &[u8], place: u64) -> u8
     ensures { result ≡ get_or (whole.now ++ fraction.now) place 48 }
 {
@@ -68,8 +68,8 @@ fn digit_at(whole: &[u8], fraction: &[u8], place: u64) -> u8
     }
 }
 
-/// The first `keep` digits of `whole` and then `fraction` as a number, rounded by the digit behind
-/// them; zeros stand behind all digits. None where that is out of range.
+/// The first `keep` digits of `whole` and then `fraction` as a number, rounded by the digit after
+/// them; zeros stand after all digits. None where that is out of range.
 pub fn rounded(whole: &[u8], fraction: &[u8], keep: u64) -> Option<u64>
     requires length { length whole.now + length fraction.now < 2 ^ 64 }
     requires whole { IsTrue (list_all is_digit whole.now) }

@@ -70,7 +70,7 @@ impl<'a> Scan<'a> {
 
     /// The next token of the body; none where the body has ended.
     ///
-    /// The scan then stands behind the token, else at the `$` of the header line that ended the
+    /// The scan then stands after the token, else at the `$` of the header line that ended the
     /// body, else at the end of the bytes.
     pub fn token(&mut self) -> Option<Token>
         ensures token { result ≡ next_token (ahead self.old) }
@@ -100,7 +100,7 @@ impl<'a> Scan<'a> {
 
     /// The name on the next header line; none where no header line is left.
     ///
-    /// The scan then stands behind that line, else at the end of the bytes.
+    /// The scan then stands after that line, else at the end of the bytes.
     pub fn header(&mut self) -> Option<Token>
         ensures name { result ≡ next_header (ahead self.old) }
         ensures stands { self.new ≡ moved self.old (place_after_header self.old result) }

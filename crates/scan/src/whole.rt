@@ -32,7 +32,7 @@ pub fn number_up_to_most(digits: &[u8]) -> Option<u64>
     Some(number)
 }
 
-/// Whether a token begins with `-`, and what stands behind a `-` or `+`.
+/// Whether a token begins with `-`, and what stands after a `-` or `+`.
 pub fn split_sign(token: &[u8]) -> (bool, &[u8])
     ensures minus { result.0 ≡ is_minus token.now }
     ensures rest { result.1.now ≡ unsigned token.now }

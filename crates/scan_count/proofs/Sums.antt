@@ -23,11 +23,11 @@ token-cons (Header name ∷ items) t e = absurd cc
 token-cons (Word token ∷ items) t e = let same : t ≡ token = cc e in ap (λ u. u ∷ body items) (sym same)
 
 -- tokens of a body that is passed add nothing
-pub behind-same : (bytes : List ℕ) (items : List Item) → all_coordinates bytes items ≡ all_coordinates bytes (behind_body items)
+pub all_coordinates-after_body : (bytes : List ℕ) (items : List Item) → all_coordinates bytes items ≡ all_coordinates bytes (behind_body items)
 unfolding all_coordinates
-behind-same bytes [] = refl
-behind-same bytes (Header name ∷ items) = refl
-behind-same bytes (Word token ∷ items) = behind-same bytes items
+all_coordinates-after_body bytes [] = refl
+all_coordinates-after_body bytes (Header name ∷ items) = refl
+all_coordinates-after_body bytes (Word token ∷ items) = all_coordinates-after_body bytes items
 
 pub header-cons : (bytes : List ℕ) (items : List Item) (name : Token) → body items ≡ [] → Some name ≡ next_header items
     → all_coordinates bytes items ≡ coordinates_where bytes (is_nodes (text_of bytes name)) 0 (body (ahead_after_header items)) ++ all_coordinates bytes (ahead_after_header items)
@@ -45,12 +45,12 @@ header-nil bytes (Word token ∷ items) b e = absurd cc
 
 -- ---- sums
 
--- a sum goes on behind these numbers, unless one of them is none
-abbrev pub sum_behind : Result ℤ NumberFault → List (Result ℤ NumberFault) → Result ℤ NumberFault
-sum_behind (Ok sum) numbers = sum_with sum numbers
-sum_behind (Err e) numbers = Err e
+-- a sum goes on after these numbers, unless one of them is none
+abbrev pub sum_after : Result ℤ NumberFault → List (Result ℤ NumberFault) → Result ℤ NumberFault
+sum_after (Ok sum) numbers = sum_with sum numbers
+sum_after (Err e) numbers = Err e
 
-pub sum-append : (sum : ℤ) (xs ys : List (Result ℤ NumberFault)) → sum_with sum (xs ++ ys) ≡ sum_behind (sum_with sum xs) ys
+pub sum-append : (sum : ℤ) (xs ys : List (Result ℤ NumberFault)) → sum_with sum (xs ++ ys) ≡ sum_after (sum_with sum xs) ys
 unfolding sum_with
 sum-append sum [] ys = refl
 sum-append sum (Ok x ∷ xs) ys = sum-append (sum +ℤ x) xs ys
@@ -86,15 +86,15 @@ zero-added s = sum-one s (ok (pos 0)) (pos 0) refl ∙ ap ok (+ℤ_idr s)
 
 -- one token more
 sum-token : (bytes : List ℕ) (in_nodes : Bool) (place : ℕ) (sum : ℤ) (token : Token) (tokens : List Token)
-    → sum_with sum (coordinates_where bytes in_nodes place (token ∷ tokens)) ≡ sum_behind (sum_with sum (value_of bytes (in_nodes && is_coordinate place) token ∷ [])) (coordinates_where bytes in_nodes (place + 1) tokens)
+    → sum_with sum (coordinates_where bytes in_nodes place (token ∷ tokens)) ≡ sum_after (sum_with sum (value_of bytes (in_nodes && is_coordinate place) token ∷ [])) (coordinates_where bytes in_nodes (place + 1) tokens)
 unfolding coordinates
-sum-token bytes false place sum token tokens = sum-none sum ∙ sym (ap (λ s. sum_behind s []) (zero-added sum) ∙ sum-none sum)
+sum-token bytes false place sum token tokens = sum-none sum ∙ sym (ap (λ s. sum_after s []) (zero-added sum) ∙ sum-none sum)
 sum-token bytes true place sum token tokens = go (is_coordinate place) refl
   where
     go : (b : Bool) → is_coordinate place ≡ b
-        → sum_with sum ((if b then fixed_of (text_of bytes token) ∷ [] else []) ++ coordinates bytes (place + 1) tokens) ≡ sum_behind (sum_with sum (value_of bytes b token ∷ [])) (coordinates bytes (place + 1) tokens)
+        → sum_with sum ((if b then fixed_of (text_of bytes token) ∷ [] else []) ++ coordinates bytes (place + 1) tokens) ≡ sum_after (sum_with sum (value_of bytes b token ∷ [])) (coordinates bytes (place + 1) tokens)
     go true is = sum-append sum (fixed_of (text_of bytes token) ∷ []) (coordinates bytes (place + 1) tokens)
-    go false is = sym (ap (λ s. sum_behind s (coordinates bytes (place + 1) tokens)) (zero-added sum))
+    go false is = sym (ap (λ s. sum_after s (coordinates bytes (place + 1) tokens)) (zero-added sum))
 
 -- ---- steps of the loops, where the rest makes up a total
 
@@ -107,7 +107,7 @@ token-summed bytes in_nodes place sum sum' value items items' t total left is ah
     let rest = coordinates_where bytes in_nodes (place + 1) (body items') in
     let cons : body items ≡ t ∷ body items' = token-cons items t is ∙ ap (λ xs. t ∷ body xs) (sym ahead) in
     ap (λ s. sum_with s rest) more
-    ∙ sym (ap (λ o. sum_behind o rest) (sum-one sum (value_of bytes (in_nodes && is_coordinate place) t) value (sym counts)))
+    ∙ sym (ap (λ o. sum_after o rest) (sum-one sum (value_of bytes (in_nodes && is_coordinate place) t) value (sym counts)))
     ∙ sym (sum-token bytes in_nodes place sum t (body items'))
     ∙ ap (λ ts. sum_with sum (coordinates_where bytes in_nodes place ts)) (sym cons) ∙ left
 
@@ -118,7 +118,7 @@ pub token-fault : (bytes : List ℕ) (in_nodes : Bool) (place : ℕ) (sum : ℤ)
 token-fault bytes in_nodes place sum items t e total left is counts =
     let tokens = body (ahead_after_token items) in
     let rest = coordinates_where bytes in_nodes (place + 1) tokens in
-    sym (ap (λ o. sum_behind o rest) (sum-fault sum (value_of bytes (in_nodes && is_coordinate place) t) e (sym counts)))
+    sym (ap (λ o. sum_after o rest) (sum-fault sum (value_of bytes (in_nodes && is_coordinate place) t) e (sym counts)))
     ∙ sym (sum-token bytes in_nodes place sum t tokens)
     ∙ ap (λ ts. sum_with sum (coordinates_where bytes in_nodes place ts)) (sym (token-cons items t is)) ∙ left
 
@@ -137,17 +137,17 @@ token-ended bytes in_nodes place sum items total left is =
     empty true = no-coordinates bytes place sum
     empty false = sum-none sum
 
--- the body behind a header line is counted
+-- the body after a header line is counted
 pub header-summed : (bytes : List ℕ) (sum sum' : ℤ) (items items' items'' : List Item) (name : Token) (total : Result ℤ NumberFault)
     → sum_with sum (all_coordinates bytes items) ≡ total → body items ≡ [] → Some name ≡ next_header items → items' ≡ ahead_after_header items
     → Ok sum' ≡ sum_with sum (coordinates_where bytes (is_nodes (text_of bytes name)) 0 (body items')) → items'' ≡ behind_body items'
     → sum_with sum' (all_coordinates bytes items'') ≡ total
-header-summed bytes sum sum' items items' items'' name total left b is ahead counts behind =
+header-summed bytes sum sum' items items' items'' name total left b is ahead counts after =
     let own = coordinates_where bytes (is_nodes (text_of bytes name)) 0 (body items') in
     let rest = all_coordinates bytes items' in
     let split : all_coordinates bytes items ≡ own ++ rest = header-cons bytes items name b is ∙ ap (λ xs. coordinates_where bytes (is_nodes (text_of bytes name)) 0 (body xs) ++ all_coordinates bytes xs) (sym ahead) in
-    ap (λ xs. sum_with sum' (all_coordinates bytes xs)) behind ∙ ap (sum_with sum') (sym (behind-same bytes items'))
-    ∙ ap (λ o. sum_behind o rest) counts ∙ sym (sum-append sum own rest) ∙ ap (sum_with sum) (sym split) ∙ left
+    ap (λ xs. sum_with sum' (all_coordinates bytes xs)) after ∙ ap (sum_with sum') (sym (all_coordinates-after_body bytes items'))
+    ∙ ap (λ o. sum_after o rest) counts ∙ sym (sum-append sum own rest) ∙ ap (sum_with sum) (sym split) ∙ left
 
 -- in that body a coordinate is no number
 pub header-fault : (bytes : List ℕ) (sum : ℤ) (items items' : List Item) (name : Token) (e : NumberFault) (total : Result ℤ NumberFault)
@@ -157,7 +157,7 @@ header-fault bytes sum items items' name e total left b is ahead counts =
     let own = coordinates_where bytes (is_nodes (text_of bytes name)) 0 (body items') in
     let rest = all_coordinates bytes items' in
     let split : all_coordinates bytes items ≡ own ++ rest = header-cons bytes items name b is ∙ ap (λ xs. coordinates_where bytes (is_nodes (text_of bytes name)) 0 (body xs) ++ all_coordinates bytes xs) (sym ahead) in
-    ap (λ o. sum_behind o rest) counts ∙ sym (sum-append sum own rest) ∙ ap (sum_with sum) (sym split) ∙ left
+    ap (λ o. sum_after o rest) counts ∙ sym (sum-append sum own rest) ∙ ap (sum_with sum) (sym split) ∙ left
 
 -- no header line is left
 pub header-ended : (bytes : List ℕ) (sum : ℤ) (items : List Item) (total : Result ℤ NumberFault)
@@ -169,9 +169,9 @@ header-ended bytes sum items total left b is = sym (ap (sum_with sum) (header-ni
 -- before the first header line nothing is added
 pub begun : (bytes : List ℕ) (sum : ℤ) (items items' all : List Item) → Ok sum ≡ sum_with (pos 0) [] → items ≡ all → items' ≡ behind_body items
     → sum_with sum (all_coordinates bytes items') ≡ sum_with (pos 0) (all_coordinates bytes all)
-begun bytes sum items items' all nothing whole behind =
+begun bytes sum items items' all nothing whole after =
     let zero : sum ≡ pos 0 = cc (nothing ∙ sum-none (pos 0)) in
-    ap (λ s. sum_with s (all_coordinates bytes items')) zero ∙ ap (λ xs. sum_with (pos 0) (all_coordinates bytes xs)) behind ∙ ap (sum_with (pos 0)) (sym (behind-same bytes items)) ∙ ap (λ xs. sum_with (pos 0) (all_coordinates bytes xs)) whole
+    ap (λ s. sum_with s (all_coordinates bytes items')) zero ∙ ap (λ xs. sum_with (pos 0) (all_coordinates bytes xs)) after ∙ ap (sum_with (pos 0)) (sym (all_coordinates-after_body bytes items)) ∙ ap (λ xs. sum_with (pos 0) (all_coordinates bytes xs)) whole
 
 -- what a body adds, by the name of its section
 own-is : (bytes bytes' name' : List ℕ) (in_nodes : Bool) (sum : ℤ) (items : List Item) (name : Token) (o : Result ℤ NumberFault)
@@ -184,8 +184,8 @@ pub body-summed : (bytes bytes' name' : List ℕ) (sum sum' : ℤ) (items items'
     → sum_with sum (all_coordinates bytes items) ≡ total → body items ≡ [] → Some name ≡ next_header items → items' ≡ ahead_after_header items
     → Ok sum' ≡ sum_with sum (coordinates_where bytes' in_nodes 0 (body items')) → bytes' ≡ bytes → in_nodes ≡ is_nodes name' → name' ≡ text_of bytes' name → items'' ≡ behind_body items'
     → sum_with sum' (all_coordinates bytes items'') ≡ total
-body-summed bytes bytes' name' sum sum' items items' items'' name in_nodes total left b is ahead counts file nodes text behind =
-    header-summed bytes sum sum' items items' items'' name total left b is ahead (own-is bytes bytes' name' in_nodes sum items' name (Ok sum') counts file nodes text) behind
+body-summed bytes bytes' name' sum sum' items items' items'' name in_nodes total left b is ahead counts file nodes text after =
+    header-summed bytes sum sum' items items' items'' name total left b is ahead (own-is bytes bytes' name' in_nodes sum items' name (Ok sum') counts file nodes text) after
 
 pub body-fault : (bytes bytes' name' : List ℕ) (sum : ℤ) (items items' : List Item) (name : Token) (in_nodes : Bool) (e : NumberFault) (total : Result ℤ NumberFault)
     → sum_with sum (all_coordinates bytes items) ≡ total → body items ≡ [] → Some name ≡ next_header items → items' ≡ ahead_after_header items

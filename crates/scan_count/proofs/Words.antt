@@ -27,10 +27,10 @@ words-split [] = omega arith
 words-split (Header name ∷ items) = omega arith
 words-split (Word token ∷ items) = let h = words-split items in let e = count-cons (Word token) items in omega (arith, h, e)
 
-pub body-behind : (items : List Item) → body (behind_body items) ≡ []
-body-behind [] = refl
-body-behind (Header name ∷ items) = refl
-body-behind (Word token ∷ items) = body-behind items
+pub body-after_body : (items : List Item) → body (behind_body items) ≡ []
+body-after_body [] = refl
+body-after_body (Header name ∷ items) = refl
+body-after_body (Word token ∷ items) = body-after_body items
 
 pub header-some : (items : List Item) (name : Token) → body items ≡ [] → Some name ≡ next_header items → count_by is_word items ≡ count_by is_word (ahead_after_header items)
 header-some [] name b e = absurd cc
@@ -53,11 +53,11 @@ few-more place place' counts x s few lt step e = record {
 pub few-later : (place place' : ℕ) (counts : Counts) → AreFew place counts → place ≤ place' → AreFew place' counts
 few-later place place' counts few le = record { tokens = let t = few.tokens in omega arith; low = few.low; high = few.high }
 
--- a body is counted, and the header line behind it is ahead
+-- a body is counted, and the header line after it is ahead
 pub counted : (total before tokens : ℕ) (old new : List Item) → before + count_by is_word old ≡ total → tokens ≡ before + length (body old) → new ≡ behind_body old → (tokens + count_by is_word new ≡ total) × (body new ≡ [])
 counted total before tokens old new sum e a =
     let w = words-split old in
-    rw a (omega (arith, w, sum, e), body-behind old)
+    rw a (omega (arith, w, sum, e), body-after_body old)
 
 -- a header line is passed
 pub passed : (total before : ℕ) (old new : List Item) (name : Token) → before + count_by is_word old ≡ total → body old ≡ [] → Some name ≡ next_header old → new ≡ ahead_after_header old → before + count_by is_word new ≡ total

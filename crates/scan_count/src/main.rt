@@ -30,7 +30,7 @@ fn unread(error: &io::Error) -> Trouble {
     }
 }
 
-/// The only word behind the program's name.
+/// The only word after the program's name.
 fn file_name<R: Env + AllocGlobal>(rt: &R) -> Result<String, Trouble> {
     let mut words = env::args(rt).map_err(|e| unread(&e))?.skip(1);
     let name = words.next().ok_or(Trouble::Words)?;

@@ -71,7 +71,7 @@ zero_at_any_exponent x e =
 pub out_of_range_far_above : (x : Decimal) (e : ℕ) → x.exponent ≡ pos e → 9 ≤ e → 1 ≤ number_of_digits x.digits → fixed_value x ≡ Err OutOfRange
 out_of_range_far_above x e is far some = value-out x (rw is (scaled-great (number_of_digits x.digits) (e + 10) some (omega arith)))
 
--- and their value is 0 where all of them stand behind the eleventh place
+-- and their value is 0 where all of them stand after the eleventh place
 pub zero_far_below : (x : Decimal) (e : ℕ) → x.exponent ≡ negsuc e → length x.digits + 10 ≤ e → list_all is_digit x.digits ≡ true → fixed_value x ≡ Ok (pos 0)
 zero_far_below x e is far all =
     let k : x.exponent +ℤ pos 10 ≡ negsuc (e - 10) = omega (arith, ints, is) in

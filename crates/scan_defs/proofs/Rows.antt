@@ -20,7 +20,7 @@ at bytes place = record { bytes = bytes; place = place }
 
 -- ---- lines, header lines and tokens
 
--- CR LF, a tab, blanks before a header line and behind its name, a `$` in mid-line, an empty line, no LF at the end
+-- CR LF, a tab, blanks before a header line and after its name, a `$` in mid-line, an empty line, no LF at the end
 abbrev mixed : List ℕ
 mixed = codes "x\r\n \t$Nodes \r\n1\t0 $a\n\n2"
 
@@ -28,7 +28,7 @@ items_of_mixed : items mixed ≡ Word (run 0 1 1) ∷ Header (run 6 11 2) ∷ Wo
 unfolding lines_of line_number lines_from is_indent name_of tokens_on items_on items_of ahead
 items_of_mixed = refl
 
--- behind a token a `$` begins no header line; in the blanks before one it does
+-- after a token a `$` begins no header line; in the blanks before one it does
 ahead_in_mid_line : map (λ place. ahead (at mixed place)) (17 ∷ 20 ∷ 23 ∷ []) ≡ (Word (run 18 20 3) ∷ Word (run 22 23 5) ∷ []) ∷ (Word (run 22 23 5) ∷ []) ∷ [] ∷ []
 unfolding lines_of line_number lines_from is_indent name_of tokens_on items_on items_of ahead
 ahead_in_mid_line = refl
@@ -42,11 +42,11 @@ unfolding line_number
 line_numbers = refl
 
 -- the line of the end of a file whose last line has an LF is one more
-line_behind_the_last : line_number (codes "a\n") 2 ≡ 2
+line_after_the_last : line_number (codes "a\n") 2 ≡ 2
 unfolding line_number
-line_behind_the_last = refl
+line_after_the_last = refl
 
--- blanks before `$` and at the end do not belong to the name, blanks behind `$` do
+-- blanks before `$` and at the end do not belong to the name, blanks after `$` do
 names : map (λ line. text_of line (name_of (record { start = 0; number = 1; text = line }))) (codes "$Nodes" ∷ codes " \t$Nodes\t\r" ∷ codes "$ Nodes" ∷ codes "$" ∷ codes "$ " ∷ codes "$$a b" ∷ [])
     ≡ codes "Nodes" ∷ codes "Nodes" ∷ codes " Nodes" ∷ [] ∷ [] ∷ codes "$a b" ∷ []
 unfolding name_of
@@ -62,7 +62,7 @@ triangle = codes "$MeshFormat\n2.2 0 8\n$EndMeshFormat\n$Nodes\n3\n1 0 0 0\n2 1 
 abbrev words_from : ℕ → List (List ℕ)
 words_from place = map (text_of triangle) (body (ahead (at triangle place)))
 
--- the body behind the line `$Elements`, and behind the third token of its element
+-- the body after the line `$Elements`, and after the third token of its element
 body_of_elements : map words_from (88 ∷ 95 ∷ []) ≡ (codes "1" ∷ codes "1" ∷ codes "2" ∷ codes "2" ∷ codes "0" ∷ codes "1" ∷ codes "1" ∷ codes "2" ∷ codes "3" ∷ []) ∷ (codes "0" ∷ codes "1" ∷ codes "1" ∷ codes "2" ∷ codes "3" ∷ []) ∷ []
 unfolding lines_of line_number lines_from is_indent name_of tokens_on items_on items_of ahead
 body_of_elements = refl
@@ -76,7 +76,7 @@ names_of_triangle : names_from (items triangle) ≡ codes "MeshFormat" ∷ codes
 unfolding lines_of line_number lines_from is_indent name_of tokens_on items_on items_of ahead
 names_of_triangle = refl
 
--- behind `$MeshFormat`, behind the tokens of its body, and at the header line that ended it
+-- after `$MeshFormat`, after the tokens of its body, and at the header line that ended it
 places_of_format : (place_after_header (at triangle 0) (next_header (items triangle)) ≡ 12) × (map (λ place. place_after_token (at triangle place) (ahead (at triangle place))) (12 ∷ 15 ∷ 17 ∷ 19 ∷ 20 ∷ []) ≡ 15 ∷ 17 ∷ 19 ∷ 20 ∷ 20 ∷ [])
 unfolding lines_of line_number lines_from is_indent line_end behind_line name_of tokens_on items_on items_of ahead
 places_of_format = (refl, refl)
@@ -110,9 +110,9 @@ unfolding lines_of line_number lines_from is_indent name_of tokens_on items_on i
 quotes_by_items = refl
 
 -- the scan then stands at the end of that line, and the header line is ahead
-behind_the_quote : (place_after_quoted (at named 3) (Ok (run 8 17 3)) ≡ 19) × (ahead_after_quoted (ahead (at named 3)) (Ok (run 8 17 3)) ≡ Header (run 21 24 4) ∷ [])
+after_the_quote : (place_after_quoted (at named 3) (Ok (run 8 17 3)) ≡ 19) × (ahead_after_quoted (ahead (at named 3)) (Ok (run 8 17 3)) ≡ Header (run 21 24 4) ∷ [])
 unfolding lines_of line_number lines_from is_indent line_end name_of tokens_on items_on items_of ahead
-behind_the_quote = (refl, refl)
+after_the_quote = (refl, refl)
 
 -- ---- whole numbers
 

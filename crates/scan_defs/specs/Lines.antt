@@ -10,7 +10,7 @@ pub record Line : Type 0 where
   pub number : ℕ
   pub text : List ℕ
 
--- texts as lines one behind the other, an LF between two of them; the first has this place and this number
+-- texts as lines one after the other, an LF between two of them; the first has this place and this number
 abbrev pub lines_at : ℕ → ℕ → List (List ℕ) → List Line
 lines_at start number [] = []
 lines_at start number (text ∷ texts) = record { start = start; number = number; text = text } ∷ lines_at (start + length text + 1) (number + 1) texts
@@ -19,7 +19,7 @@ lines_at start number (text ∷ texts) = record { start = start; number = number
 unfoldable pub line_number : List ℕ → ℕ → ℕ
 line_number bytes place = count_by is_newline (take place bytes) + 1
 
--- the lines from a place on: what is left of its line, and the lines behind
+-- the lines from a place on: what is left of its line, and the lines after it
 unfoldable pub lines_from : List ℕ → ℕ → List Line
 lines_from bytes place = lines_at place (line_number bytes place) (lines_of (drop place bytes))
 
@@ -35,11 +35,11 @@ rest_of_line bytes place = before_first is_newline (drop place bytes)
 unfoldable pub line_end : List ℕ → ℕ → ℕ
 line_end bytes place = place + length (rest_of_line bytes place)
 
--- the place behind the line of a place
+-- the place after the line of a place
 unfoldable pub behind_line : List ℕ → ℕ → ℕ
 behind_line bytes place = min (line_end bytes place + 1) (length bytes)
 
--- ---- within a line: the place of its first byte that is no blank, and the place behind its last one
+-- ---- within a line: the place of its first byte that is no blank, and the place after its last one
 
 abbrev pub front : List ℕ → ℕ
 front text = prefix_len is_blank text

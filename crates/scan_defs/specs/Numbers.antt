@@ -68,19 +68,19 @@ exponent token = after_first is_mark (unsigned token)
 abbrev pub has_exponent : List ℕ → Bool
 has_exponent token = list_any is_mark (unsigned token)
 
--- the digits before the point, and those behind it
+-- the digits before the point, and those after it
 abbrev pub whole_part : List ℕ → List ℕ
 whole_part token = before_first is_decimal_point (mantissa token)
 
 abbrev pub fraction : List ℕ → List ℕ
 fraction token = after_first is_decimal_point (mantissa token)
 
--- An optional sign, then digits with at most one point among, before or behind them and at least one digit, then
+-- An optional sign, then digits with at most one point among, before or after them and at least one digit, then
 -- optionally `e` or `E`, an optional sign and at least one digit.
 abbrev pub is_fixed : List ℕ → Bool
 is_fixed token = is_whole (whole_part token ++ fraction token) && (not (has_exponent token) || is_whole (unsigned (exponent token)))
 
--- the number behind `e`, or 0
+-- the number after `e`, or 0
 abbrev pub power : List ℕ → ℤ
 power token = if has_exponent token then signed (is_minus (exponent token)) (number_of_digits (unsigned (exponent token))) else pos 0
 

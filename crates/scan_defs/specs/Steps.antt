@@ -21,7 +21,7 @@ next_token [] = None
 next_token (Header name ∷ items) = None
 next_token (Word token ∷ items) = Some token
 
--- behind the token, else at the `$` of the header line that ended the body, else at the end of the bytes
+-- after the token, else at the `$` of the header line that ended the body, else at the end of the bytes
 abbrev pub place_after_token : Spot → List Item → ℕ
 place_after_token s [] = length s.bytes
 place_after_token s (Header name ∷ items) = name.start - 1
@@ -39,7 +39,7 @@ next_header [] = None
 next_header (Header name ∷ items) = Some name
 next_header (Word token ∷ items) = next_header items
 
--- behind that line, else at the end of the bytes
+-- after that line, else at the end of the bytes
 abbrev pub place_after_header : Spot → Option Token → ℕ
 place_after_header s None = length s.bytes
 place_after_header s (Some name) = behind_line s.bytes name.start

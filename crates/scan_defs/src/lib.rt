@@ -10,7 +10,7 @@
 pub struct Token {
     /// The place of its first byte in the file, from 0.
     pub start: usize,
-    /// The place behind its last byte.
+    /// The place after its last byte.
     pub end: usize,
     /// The number of its line, from 1.
     pub line: u32,
