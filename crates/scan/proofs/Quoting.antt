@@ -9,7 +9,7 @@ use Rattle.line_defs.specs.Rows.{is_blank, is_newline, is_some_bytes, onto_first
 use Rattle.scan_defs.specs.declared.Token.{Token}
 use Rattle.scan_defs.specs.Lines.{Line, lines_at, line_number, lines_from, is_indent, rest_of_line, line_end, front, back}
 use Rattle.scan_defs.specs.Items.{Item, Header, Word, is_header, name_of, tokens_at, tokens_on, words_on, items_on, items_of, ahead}
-use Rattle.scan_defs.specs.Steps.{behind_items_on}
+use Rattle.scan_defs.specs.Steps.{after_items_on}
 use Rattle.scan_defs.specs.Quotes.{is_quoted, quoted_on, or_line, quoted_where, quoted_from, quoted_in}
 use Rattle.scan.specs.Cursors.{is_gap, spot, IsAt}
 use Rattle.scan.specs.declared.cursor.Cursor.{Cursor}
@@ -216,41 +216,41 @@ quoted-some place line last text f e =
 
 -- ---- the items after the tokens of a line
 
-skip-token : (b : Bool) (n : ℕ) (t : Token) (tokens : List Token) (rest : List Item) → t.line ≡ n → behind_items_on n (map Word tokens ++ rest) ≡ behind_items_on n rest
-    → behind_items_on n (map Word (cond b (t ∷ []) [] ++ tokens) ++ rest) ≡ behind_items_on n rest
+skip-token : (b : Bool) (n : ℕ) (t : Token) (tokens : List Token) (rest : List Item) → t.line ≡ n → after_items_on n (map Word tokens ++ rest) ≡ after_items_on n rest
+    → after_items_on n (map Word (cond b (t ∷ []) [] ++ tokens) ++ rest) ≡ after_items_on n rest
 skip-token true n t tokens rest e skips = rw (e, eq-eqb n n refl) skips
 skip-token false n t tokens rest e skips = skips
 
 -- the tokens of that line are skipped
-skip-tokens : (place n : ℕ) (ps : List (List ℕ)) (rest : List Item) → behind_items_on n (map Word (tokens_at place n ps) ++ rest) ≡ behind_items_on n rest
+skip-tokens : (place n : ℕ) (ps : List (List ℕ)) (rest : List Item) → after_items_on n (map Word (tokens_at place n ps) ++ rest) ≡ after_items_on n rest
 skip-tokens place n [] rest = refl
 skip-tokens place n (p ∷ ps) rest =
     let t : Token = record { start = place; end = place + length p; line = n } in
     skip-token (is_some_bytes p) n t (tokens_at (place + length p + 1) n ps) rest refl (skip-tokens (place + length p + 1) n ps rest)
 
-skip-words : (place n : ℕ) (text : List ℕ) (rest : List Item) → behind_items_on n (words_on (at place n text) ++ rest) ≡ behind_items_on n rest
+skip-words : (place n : ℕ) (text : List ℕ) (rest : List Item) → after_items_on n (words_on (at place n text) ++ rest) ≡ after_items_on n rest
 unfolding tokens_on
 skip-words place n text rest = skip-tokens place n (parts is_blank text) rest
 
-keep-token : (b : Bool) (n m : ℕ) (t : Token) (tokens : List Token) (rest : List Item) → n < m → t.line ≡ m → behind_items_on n (map Word tokens ++ rest) ≡ map Word tokens ++ rest
-    → behind_items_on n (map Word (cond b (t ∷ []) [] ++ tokens) ++ rest) ≡ map Word (cond b (t ∷ []) [] ++ tokens) ++ rest
+keep-token : (b : Bool) (n m : ℕ) (t : Token) (tokens : List Token) (rest : List Item) → n < m → t.line ≡ m → after_items_on n (map Word tokens ++ rest) ≡ map Word tokens ++ rest
+    → after_items_on n (map Word (cond b (t ∷ []) [] ++ tokens) ++ rest) ≡ map Word (cond b (t ∷ []) [] ++ tokens) ++ rest
 keep-token true n m t tokens rest lt e kept = rw (ne_eqb t.line n (λ q. omega (arith, e, q))) refl
 keep-token false n m t tokens rest lt e kept = kept
 
 -- the tokens of a later line are kept
-keep-tokens : (n place m : ℕ) (ps : List (List ℕ)) (rest : List Item) → n < m → behind_items_on n rest ≡ rest → behind_items_on n (map Word (tokens_at place m ps) ++ rest) ≡ map Word (tokens_at place m ps) ++ rest
+keep-tokens : (n place m : ℕ) (ps : List (List ℕ)) (rest : List Item) → n < m → after_items_on n rest ≡ rest → after_items_on n (map Word (tokens_at place m ps) ++ rest) ≡ map Word (tokens_at place m ps) ++ rest
 keep-tokens n place m [] rest lt kept = kept
 keep-tokens n place m (p ∷ ps) rest lt kept =
     let t : Token = record { start = place; end = place + length p; line = m } in
     keep-token (is_some_bytes p) n m t (tokens_at (place + length p + 1) m ps) rest lt refl (keep-tokens n (place + length p + 1) m ps rest lt kept)
 
-keep-line : (h : Bool) (n place m : ℕ) (text : List ℕ) (rest : List Item) → n < m → behind_items_on n rest ≡ rest
-    → behind_items_on n (cond h (Header (name_of (at place m text)) ∷ []) (words_on (at place m text)) ++ rest) ≡ cond h (Header (name_of (at place m text)) ∷ []) (words_on (at place m text)) ++ rest
+keep-line : (h : Bool) (n place m : ℕ) (text : List ℕ) (rest : List Item) → n < m → after_items_on n rest ≡ rest
+    → after_items_on n (cond h (Header (name_of (at place m text)) ∷ []) (words_on (at place m text)) ++ rest) ≡ cond h (Header (name_of (at place m text)) ∷ []) (words_on (at place m text)) ++ rest
 unfolding tokens_on
 keep-line true n place m text rest lt kept = refl
 keep-line false n place m text rest lt kept = keep-tokens n place m (parts is_blank text) rest lt kept
 
-later-lines : (n place m : ℕ) (texts : List (List ℕ)) → n < m → behind_items_on n (flat_map items_on (lines_at place m texts)) ≡ flat_map items_on (lines_at place m texts)
+later-lines : (n place m : ℕ) (texts : List (List ℕ)) → n < m → after_items_on n (flat_map items_on (lines_at place m texts)) ≡ flat_map items_on (lines_at place m texts)
 unfolding items_on
 later-lines n place m [] lt = refl
 later-lines n place m (text ∷ texts) lt =
@@ -258,7 +258,7 @@ later-lines n place m (text ∷ texts) lt =
 
 -- what stands ahead of the end of a line of which tokens are left
 left-end : (indent : Bool) (place n m : ℕ) (bytes : List ℕ) → m ≡ position_or_len is_newline bytes → is_blank (get_or (first-line bytes) 0 0) ≡ false → (indent && eqb (get_or (first-line bytes) 0 0) 36) ≡ false
-    → left false (place + m) n (drop m bytes) ≡ behind_items_on n (left indent place n bytes)
+    → left false (place + m) n (drop m bytes) ≡ after_items_on n (left indent place n bytes)
 unfolding items_of
 left-end indent place n m bytes is ink other =
     let text : List ℕ = first-line bytes in
@@ -270,16 +270,16 @@ left-end indent place n m bytes is ink other =
     let a : left false (place + m) n (drop m bytes) ≡ X = rw (lines, no-items false (place + m) n, zero-is) refl in
     let words : cond indent (items_on (at place n text)) (words_on (at place n text)) ≡ words_on (at place n text) = first-words indent place n text ink other in
     let b : left indent place n bytes ≡ words_on (at place n text) ++ X = rw (lines-first bytes, len) (ap (λ (front : List Item). front ++ X) words) in
-    let s : behind_items_on n (words_on (at place n text) ++ X) ≡ behind_items_on n X = skip-words place n text X in
-    let l : behind_items_on n X ≡ X = later-lines n (place + m + 1) (n + 1) (others (lines_of bytes)) (omega arith) in
-    a ∙ (sym l ∙ (sym s ∙ ap (behind_items_on n) (sym b)))
+    let s : after_items_on n (words_on (at place n text) ++ X) ≡ after_items_on n X = skip-words place n text X in
+    let l : after_items_on n X ≡ X = later-lines n (place + m + 1) (n + 1) (others (lines_of bytes)) (omega arith) in
+    a ∙ (sym l ∙ (sym s ∙ ap (after_items_on n) (sym b)))
 
 -- ---- a quoted text is taken over
 
 pub record OverQuoted (bytes : List ℕ) (c : Cursor) (end : ℕ) : Type 0 where
   pub at-is : IsAt bytes (record { place = end; line = c.line; is_indent = false })
   pub stands : end ≡ line_end bytes (c.place + 1)
-  pub is : ahead (spot bytes end) ≡ behind_items_on c.line (ahead (spot bytes c.place))
+  pub is : ahead (spot bytes end) ≡ after_items_on c.line (ahead (spot bytes c.place))
 
 pub past-quoted : (bytes : List ℕ) (c : Cursor) (end : ℕ) → IsAt bytes c → c.place < length bytes → is_gap (get_or bytes c.place 0) ≡ false → get_or (rest_of_line bytes c.place) 0 0 ≡ 34 → end ≡ line_end bytes c.place → OverQuoted bytes c end
 past-quoted bytes c end is-at lt ink quote is =
@@ -293,7 +293,7 @@ past-quoted bytes c end is-at lt ink quote is =
     at-run bytes c end is-at (omega arith) (omega arith) (λ j j-lt. in-line bytes p end j is j-lt) both-are.0 in
     let d : drop m (drop p bytes) ≡ drop (p + m) bytes = drop-drop m p bytes in
     let a : ahead (spot bytes (p + m)) ≡ left false (p + m) c.line (drop (p + m) bytes) = ahead-is bytes (p + m) ∙ rw (rw e at (sym after.indent), rw e at (sym after.line)) refl in
-    let b : left false (p + m) c.line (drop m (drop p bytes)) ≡ behind_items_on c.line (left (is_indent bytes p) p c.line (drop p bytes)) =
+    let b : left false (p + m) c.line (drop m (drop p bytes)) ≡ after_items_on c.line (left (is_indent bytes p) p c.line (drop p bytes)) =
     left-end (is_indent bytes p) p c.line m (drop p bytes) refl (rw quote refl) (rw quote (and-none (is_indent bytes p))) in
     let f : left (is_indent bytes p) p (line_number bytes p) (drop p bytes) ≡ left (is_indent bytes p) p c.line (drop p bytes) = rw (sym is-at.line) refl in
     record {

@@ -4,7 +4,7 @@ use Rattle.std.proofs.Math.IntN.{+ℤ_idr}
 use Rattle.std.specs.Prelude.{Result, if◌then◌else◌, ◌&&◌}
 use Rattle.scan_defs.specs.declared.Token.{Token}
 use Rattle.scan_defs.specs.declared.NumberFault.{NumberFault}
-use Rattle.scan_defs.specs.Items.{Item, Header, Word, text_of, body, behind_body}
+use Rattle.scan_defs.specs.Items.{Item, Header, Word, text_of, body, after_body}
 use Rattle.scan_defs.specs.Steps.{next_token, ahead_after_token, next_header, ahead_after_header}
 use Rattle.scan_defs.specs.Numbers.{fixed_of}
 use Rattle.scan_count.specs.Counting.{is_coordinate, is_nodes, coordinates, coordinates_where, all_coordinates, sum_with}
@@ -23,7 +23,7 @@ token-cons (Header name ∷ items) t e = absurd cc
 token-cons (Word token ∷ items) t e = let same : t ≡ token = cc e in ap (λ u. u ∷ body items) (sym same)
 
 -- tokens of a body that is passed add nothing
-pub all_coordinates-after_body : (bytes : List ℕ) (items : List Item) → all_coordinates bytes items ≡ all_coordinates bytes (behind_body items)
+pub all_coordinates-after_body : (bytes : List ℕ) (items : List Item) → all_coordinates bytes items ≡ all_coordinates bytes (after_body items)
 unfolding all_coordinates
 all_coordinates-after_body bytes [] = refl
 all_coordinates-after_body bytes (Header name ∷ items) = refl
@@ -140,7 +140,7 @@ token-ended bytes in_nodes place sum items total left is =
 -- the body after a header line is counted
 pub header-summed : (bytes : List ℕ) (sum sum' : ℤ) (items items' items'' : List Item) (name : Token) (total : Result ℤ NumberFault)
     → sum_with sum (all_coordinates bytes items) ≡ total → body items ≡ [] → Some name ≡ next_header items → items' ≡ ahead_after_header items
-    → Ok sum' ≡ sum_with sum (coordinates_where bytes (is_nodes (text_of bytes name)) 0 (body items')) → items'' ≡ behind_body items'
+    → Ok sum' ≡ sum_with sum (coordinates_where bytes (is_nodes (text_of bytes name)) 0 (body items')) → items'' ≡ after_body items'
     → sum_with sum' (all_coordinates bytes items'') ≡ total
 header-summed bytes sum sum' items items' items'' name total left b is ahead counts after =
     let own = coordinates_where bytes (is_nodes (text_of bytes name)) 0 (body items') in
@@ -167,7 +167,7 @@ header-ended bytes sum items total left b is = sym (ap (sum_with sum) (header-ni
 -- ---- the same as the calls say it
 
 -- before the first header line nothing is added
-pub begun : (bytes : List ℕ) (sum : ℤ) (items items' all : List Item) → Ok sum ≡ sum_with (pos 0) [] → items ≡ all → items' ≡ behind_body items
+pub begun : (bytes : List ℕ) (sum : ℤ) (items items' all : List Item) → Ok sum ≡ sum_with (pos 0) [] → items ≡ all → items' ≡ after_body items
     → sum_with sum (all_coordinates bytes items') ≡ sum_with (pos 0) (all_coordinates bytes all)
 begun bytes sum items items' all nothing whole after =
     let zero : sum ≡ pos 0 = cc (nothing ∙ sum-none (pos 0)) in
@@ -182,7 +182,7 @@ own-is bytes bytes' name' in_nodes sum items name o is file nodes text =
 
 pub body-summed : (bytes bytes' name' : List ℕ) (sum sum' : ℤ) (items items' items'' : List Item) (name : Token) (in_nodes : Bool) (total : Result ℤ NumberFault)
     → sum_with sum (all_coordinates bytes items) ≡ total → body items ≡ [] → Some name ≡ next_header items → items' ≡ ahead_after_header items
-    → Ok sum' ≡ sum_with sum (coordinates_where bytes' in_nodes 0 (body items')) → bytes' ≡ bytes → in_nodes ≡ is_nodes name' → name' ≡ text_of bytes' name → items'' ≡ behind_body items'
+    → Ok sum' ≡ sum_with sum (coordinates_where bytes' in_nodes 0 (body items')) → bytes' ≡ bytes → in_nodes ≡ is_nodes name' → name' ≡ text_of bytes' name → items'' ≡ after_body items'
     → sum_with sum' (all_coordinates bytes items'') ≡ total
 body-summed bytes bytes' name' sum sum' items items' items'' name in_nodes total left b is ahead counts file nodes text after =
     header-summed bytes sum sum' items items' items'' name total left b is ahead (own-is bytes bytes' name' in_nodes sum items' name (Ok sum') counts file nodes text) after

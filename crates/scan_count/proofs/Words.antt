@@ -5,16 +5,16 @@ use Rattle.std.proofs.lemmas.List.Sums.{sum_by-cons}
 use Rattle.scan_count.specs.declared.counting.Counts.{Counts}
 use Rattle.std.specs.Prelude.{count_by}
 use Rattle.scan_defs.specs.declared.Token.{Token}
-use Rattle.scan_defs.specs.Items.{Item, Header, Word, body, behind_body}
+use Rattle.scan_defs.specs.Items.{Item, Header, Word, body, after_body}
 use Rattle.scan_defs.specs.Steps.{next_token, ahead_after_token, next_header, ahead_after_header}
 use Rattle.scan_count.specs.Counting.{is_word, IsStep, AreFew}
 
-pub token-some : (items : List Item) (t : Token) → Some t ≡ next_token items → (length (body items) ≡ 1 + length (body (ahead_after_token items))) × (behind_body items ≡ behind_body (ahead_after_token items))
+pub token-some : (items : List Item) (t : Token) → Some t ≡ next_token items → (length (body items) ≡ 1 + length (body (ahead_after_token items))) × (after_body items ≡ after_body (ahead_after_token items))
 token-some [] t e = absurd cc
 token-some (Header name ∷ items) t e = absurd cc
 token-some (Word token ∷ items) t e = (omega arith, refl)
 
-pub token-none : (items : List Item) → None ≡ next_token items → (body items ≡ []) × (ahead_after_token items ≡ behind_body items)
+pub token-none : (items : List Item) → None ≡ next_token items → (body items ≡ []) × (ahead_after_token items ≡ after_body items)
 token-none [] e = (refl, refl)
 token-none (Header name ∷ items) e = (refl, refl)
 token-none (Word token ∷ items) e = absurd cc
@@ -22,12 +22,12 @@ token-none (Word token ∷ items) e = absurd cc
 count-cons : (item : Item) (items : List Item) → count_by is_word (item ∷ items) ≡ cond (is_word item) 1 0 + count_by is_word items
 count-cons item items = sum_by-cons (λ (x : Item). cond (is_word x) 1 0) item items
 
-pub words-split : (items : List Item) → count_by is_word items ≡ length (body items) + count_by is_word (behind_body items)
+pub words-split : (items : List Item) → count_by is_word items ≡ length (body items) + count_by is_word (after_body items)
 words-split [] = omega arith
 words-split (Header name ∷ items) = omega arith
 words-split (Word token ∷ items) = let h = words-split items in let e = count-cons (Word token) items in omega (arith, h, e)
 
-pub body-after_body : (items : List Item) → body (behind_body items) ≡ []
+pub body-after_body : (items : List Item) → body (after_body items) ≡ []
 body-after_body [] = refl
 body-after_body (Header name ∷ items) = refl
 body-after_body (Word token ∷ items) = body-after_body items
@@ -54,7 +54,7 @@ pub few-later : (place place' : ℕ) (counts : Counts) → AreFew place counts �
 few-later place place' counts few le = record { tokens = let t = few.tokens in omega arith; low = few.low; high = few.high }
 
 -- a body is counted, and the header line after it is ahead
-pub counted : (total before tokens : ℕ) (old new : List Item) → before + count_by is_word old ≡ total → tokens ≡ before + length (body old) → new ≡ behind_body old → (tokens + count_by is_word new ≡ total) × (body new ≡ [])
+pub counted : (total before tokens : ℕ) (old new : List Item) → before + count_by is_word old ≡ total → tokens ≡ before + length (body old) → new ≡ after_body old → (tokens + count_by is_word new ≡ total) × (body new ≡ [])
 counted total before tokens old new sum e a =
     let w = words-split old in
     rw a (omega (arith, w, sum, e), body-after_body old)

@@ -1,7 +1,7 @@
 //! Counting the tokens of a file and adding up its coordinates.
 
 ghost use Rattle.std.specs.Prelude.{◌≡◌, ◌+◌, ◌^◌, ◌≤◌, ◌&&◌, if◌then◌else◌, length, count_by, Ok, IfOk, pos, neg_ℤ, ◌+ℤ◌, ◌≤ℤ◌};
-ghost use Rattle.scan_defs.specs.Items.{items, ahead, body, behind_body};
+ghost use Rattle.scan_defs.specs.Items.{items, ahead, body, after_body};
 ghost use Rattle.scan_defs.specs.Numbers.{fixed_of};
 ghost use Rattle.scan_count.specs.Counting.{is_word, is_coordinate, is_nodes, coordinates_where, all_coordinates, sum_with, sum_in, IsStep, AreFew};
 
@@ -62,7 +62,7 @@ fn count_body(scan: &mut Scan<'_>, counts: Counts, in_nodes: bool) -> Result<Cou
     ensures few { IfOk result (λ new. AreFew scan.new.place new) }
     ensures sum { sum_in result ≡ sum_with counts.sum (coordinates_where scan.old.bytes in_nodes 0 (body (ahead scan.old))) }
     ensures tokens { IfOk result (λ new. new.tokens ≡ counts.tokens + length (body (ahead scan.old))) }
-    ensures ahead { IfOk result (λ _. ahead scan.new ≡ behind_body (ahead scan.old)) }
+    ensures ahead { IfOk result (λ _. ahead scan.new ≡ after_body (ahead scan.old)) }
 {
     let mut counts = counts;
     let mut place = 0;

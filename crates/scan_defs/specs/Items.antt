@@ -66,7 +66,7 @@ body [] = []
 body (Header name ∷ items) = []
 body (Word token ∷ items) = token ∷ body items
 
-abbrev pub behind_body : List Item → List Item
-behind_body [] = []
-behind_body (Header name ∷ items) = Header name ∷ items
-behind_body (Word token ∷ items) = behind_body items
+abbrev pub after_body : List Item → List Item
+after_body [] = []
+after_body (Header name ∷ items) = Header name ∷ items
+after_body (Word token ∷ items) = after_body items

@@ -1,7 +1,7 @@
 -- What the calls of a scan answer, and where it stands after them.
 use Rattle.std.specs.Prelude.{ℕ, ◌-◌, ◌==◌, Bool, false, if◌then◌else◌, List, [], ◌∷◌, length, Option, Some, None, Result, Ok, Err}
 use Rattle.scan_defs.specs.declared.Token.{Token}
-use Rattle.scan_defs.specs.Lines.{line_number, line_end, behind_line}
+use Rattle.scan_defs.specs.Lines.{line_number, line_end, after_line}
 use Rattle.scan_defs.specs.Items.{Item, Header, Word, Spot}
 
 -- the same bytes, at another place
@@ -42,7 +42,7 @@ next_header (Word token ∷ items) = next_header items
 -- after that line, else at the end of the bytes
 abbrev pub place_after_header : Spot → Option Token → ℕ
 place_after_header s None = length s.bytes
-place_after_header s (Some name) = behind_line s.bytes name.start
+place_after_header s (Some name) = after_line s.bytes name.start
 
 abbrev pub ahead_after_header : List Item → List Item
 ahead_after_header [] = []
@@ -62,10 +62,10 @@ is_on_line number (Header name) = false
 is_on_line number (Word token) = token.line == number
 
 -- the items after the tokens of a line
-abbrev pub behind_items_on : ℕ → List Item → List Item
-behind_items_on number [] = []
-behind_items_on number (item ∷ items) = if is_on_line number item then behind_items_on number items else item ∷ items
+abbrev pub after_items_on : ℕ → List Item → List Item
+after_items_on number [] = []
+after_items_on number (item ∷ items) = if is_on_line number item then after_items_on number items else item ∷ items
 
 abbrev pub ahead_after_quoted : List Item → Result Token ℕ → List Item
 ahead_after_quoted items (Err line) = items
-ahead_after_quoted items (Ok text) = behind_items_on text.line items
+ahead_after_quoted items (Ok text) = after_items_on text.line items
