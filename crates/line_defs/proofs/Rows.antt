@@ -1,5 +1,5 @@
 -- Worked rows: lines, tokens and rows of small texts, numbers, and shortest decimal texts.
-use Rattle.std.proofs.Common.{◌≡◌, ℕ, List, [], ◌∷◌, map, pos, negsuc, Some, None, refl}
+use Rattle.std.proofs.Common.{◌≡◌, [], ◌∷◌, map, pos, negsuc, Some, None, refl}
 use Rattle.std.specs.Prelude.{codes}
 use Rattle.std.specs.Fmt.{digits}
 use Rattle.line_defs.specs.Rows.{lines_of, tokens_of, rows_of}

@@ -13,7 +13,7 @@ use plex_base::MAX_FILE_BYTES;
 use scan_defs::Token;
 
 /// A place in the bytes of a file.
-#[derive(Clone, Copy)]
+#[derive(Clone, Copy, Debug)]
 pub struct Cursor {
     pub place: usize,
     /// The number of its line, from 1.

@@ -20,7 +20,7 @@ use std::marker::Model;
 ///
 /// A header line is a line whose first byte that is no blank is `$`. A token is a run of bytes of
 /// another line that are no blanks. The body is the tokens up to the next header line.
-#[derive(Drop)]
+#[derive(Debug, Drop)]
 pub struct Scan<'a> {
     bytes: &'a [u8],
     at: Cursor,
