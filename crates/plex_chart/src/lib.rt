@@ -9,8 +9,6 @@ mod builder;
 mod cones;
 mod plex;
 mod strata;
-#[cfg(test)]
-mod tests;
 
 pub use builder::PlexBuilder;
 pub use mesh_defs::ConeEntry;

@@ -10,8 +10,6 @@ mod listing;
 mod relation;
 mod rules;
 mod tables;
-#[cfg(test)]
-mod tests;
 mod turn;
 
 pub use facets::cone_under;

@@ -6,9 +6,6 @@
 //! crates that use them hand on.
 #![tactic(auto)]
 
-#[cfg(test)]
-mod tests;
-
 ghost use Rattle.std.specs.Prelude.{◌≡◌, ◌↔◌, ◌≢◌, IsTrue};
 ghost use Rattle.sf_defs.specs.declared.Op.TheVariants.{Load};
 ghost use Rattle.sf_defs.specs.declared.Tag.TheVariants.{Free};

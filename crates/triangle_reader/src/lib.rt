@@ -17,6 +17,3 @@ mod tokens;
 pub use content::{ElementView, MshText};
 pub use fault::MshFault;
 pub use reading::read_msh;
-
-#[cfg(test)]
-mod tests;

@@ -1,12 +1,14 @@
 ghost use Rattle.std.specs.Prelude.{◌≡◌, ◌≤◌, length};
 ghost use Rattle.mesh_defs.specs.Tables.{corner_count};
 
-use super::*;
+use poly_orient::{
+    Poly, act, compose, cone_under, inverse, orientations, relative,
+};
 use poly_tables::{facet_count, vertex_count};
 use std::process::Abort;
 
 /// What the corners 0, 1, 2 and so on become under an orientation, in the first places of a list.
-fn listed(rt: &impl Abort, p: Poly, o: i8) -> [u32; 8] {
+fn list_corners(rt: &impl Abort, p: Poly, o: i8) -> [u32; 8] {
     let (least, greatest) = orientations(p);
     assert!(rt; least <= o && o <= greatest);
     let corners = [0, 1, 2, 3, 4, 5, 6, 7];
@@ -40,7 +42,7 @@ const POLYGONS: [(Poly, i8, [u32; 4]); 17] = [
 #[test]
 fn lists_polygons(rt: HostRuntime) {
     for (p, o, want) in POLYGONS {
-        let to = listed(&rt, p, o);
+        let to = list_corners(&rt, p, o);
         assert_eq!(rt; [to[0], to[1], to[2], to[3]], want);
     }
 }
@@ -79,9 +81,9 @@ const ODD: [[u32; 4]; 12] = [
 #[test]
 fn lists_the_tetrahedron(rt: HostRuntime) {
     for place in 0..12 {
-        let even = listed(&rt, Poly::Tet, place as i8);
+        let even = list_corners(&rt, Poly::Tet, place as i8);
         assert_eq!(rt; [even[0], even[1], even[2], even[3]], EVEN[place]);
-        let odd = listed(&rt, Poly::Tet, -1 - place as i8);
+        let odd = list_corners(&rt, Poly::Tet, -1 - place as i8);
         assert_eq!(rt; [odd[0], odd[1], odd[2], odd[3]], ODD[place]);
     }
 }
@@ -96,7 +98,7 @@ fn lists_the_hexahedron(rt: HostRuntime) {
         (-2, [0, 3, 2, 1, 4, 7, 6, 5]),
         (-3, [0, 4, 7, 3, 1, 5, 6, 2]),
     ] {
-        assert_eq!(rt; listed(&rt, Poly::Hex, o), want);
+        assert_eq!(rt; list_corners(&rt, Poly::Hex, o), want);
     }
 }
 

@@ -1,8 +1,8 @@
 ghost use Rattle.std.specs.Prelude.{◌≡◌, length, IfOk};
 
-use super::*;
 use mesh_defs::Poly;
 use plex_base::{Dim, NoMemory};
+use plex_chart::{ConeEntry, Plex, PlexBuilder};
 use std::alloc::Global;
 use std::test::Fail;
 

@@ -11,7 +11,7 @@ use Rattle.mesh_defs.specs.Orientation.{orientations, rotations, reflections}
 use Rattle.mesh_defs.specs.Diagram.{Covering, Diagram}
 use Rattle.plex_chart.specs.Chart.{FitsFacet, IsWhole, point_at}
 use Rattle.plex_chart.proofs.Orientations.{Contains-same}
-use Rattle.plex_chart.proofs.tests.triangle.Goals as goal
+use Rattle.base_tests.proofs.chart.triangle.Goals as goal
 
 abbrev to : ℕ → ℤ → ConeEntry
 to point o = record { point = point; o = o }

@@ -1,4 +1,4 @@
-use super::*;
+use sf_defs::{Ask, Leaf, Op, Tag, Turn};
 
 #[test]
 fn applies_each_operation(rt: HostRuntime) {

@@ -1,0 +1,12 @@
+//! Tests of the crates on which the others stand: operations on words, the tables and orientations
+//! of polytopes, and charts with cones.
+#![tactic(auto)]
+
+#[cfg(test)]
+mod chart;
+#[cfg(test)]
+mod operations;
+#[cfg(test)]
+mod orientation;
+#[cfg(test)]
+mod tables;
