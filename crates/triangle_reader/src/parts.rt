@@ -12,7 +12,7 @@ use plex_base::{MAX_CELLS, MAX_NODES};
 use std::alloc::Global;
 
 /// The bytes behind the part `$MeshFormat`.
-#[tactic(auto, unfolding(text_defs::specs::Triangles::format_part))]
+#[tactic(auto, unfolding(triangle_defs::specs::Triangles::format_part))]
 pub fn format_part(bytes: &[u8]) -> Option<&[u8]>
     ensures { option_map (λ rest. rows_of rest.now) result ≡ format_part (rows_of bytes.now) }
 {
@@ -36,7 +36,7 @@ fn node_rows(alloc: Global, count: u32, bytes: &[u8]) -> Result<(Vec<FileNode>, 
 }
 
 /// The nodes of the part `$Nodes`, and the bytes behind it.
-#[tactic(auto, unfolding(text_defs::specs::Triangles::nodes_part))]
+#[tactic(auto, unfolding(triangle_defs::specs::Triangles::nodes_part))]
 pub fn nodes_part(alloc: Global, bytes: &[u8]) -> Result<(Vec<FileNode>, &[u8]), MshFault>
     ensures { Gives (λ x. (node_views x.0.items, rows_of x.1.now)) result (nodes_part (rows_of bytes.now)) }
 {
@@ -67,7 +67,7 @@ fn element_rows(
 }
 
 /// The elements of the part `$Elements` on the nodes 1 to `nodes`, and the bytes behind it.
-#[tactic(auto, unfolding(text_defs::specs::Triangles::elements_part))]
+#[tactic(auto, unfolding(triangle_defs::specs::Triangles::elements_part))]
 pub fn elements_part(
     alloc: Global,
     nodes: u32,

@@ -44,7 +44,7 @@ pub fn after_version(bytes: &[u8]) -> Option<&[u8]>
 }
 
 /// A count from `low` to `high` that stands alone in the next row, and the bytes behind it.
-#[tactic(auto, unfolding(text_defs::specs::Triangles::count_of))]
+#[tactic(auto, unfolding(triangle_defs::specs::Triangles::count_of))]
 pub fn count_row(bytes: &[u8], low: u32, high: u32) -> Option<(u32, &[u8])>
     ensures { option_map (λ x. (x.0, rows_of x.1.now)) result ≡ count_at low high (rows_of bytes.now) }
 {
@@ -59,7 +59,7 @@ pub fn count_row(bytes: &[u8], low: u32, high: u32) -> Option<(u32, &[u8])>
 }
 
 /// The node of a line `i x y z`.
-#[tactic(auto, unfolding(text_defs::specs::Triangles::node_of))]
+#[tactic(auto, unfolding(triangle_defs::specs::Triangles::node_of))]
 fn node_line(line: &[u8], number: u32) -> Option<FileNode>
     ensures { option_map node_view result ≡ node_of number (tokens_of line.now) }
 {
@@ -102,7 +102,7 @@ fn are_corners(nodes: u32, a: u32, b: u32, c: u32) -> bool
 }
 
 /// The element of a line `i 2 2 0 t a b c`.
-#[tactic(auto, unfolding(text_defs::specs::Triangles::element_of))]
+#[tactic(auto, unfolding(triangle_defs::specs::Triangles::element_of))]
 fn element_line(line: &[u8], nodes: u32) -> Option<FileElement>
     ensures { option_map element_view result ≡ element_of nodes (tokens_of line.now) }
 {
