@@ -3,7 +3,7 @@ use Rattle.std.proofs.Common.{◌≡◌, ◌≢◌, ℕ, zero, suc, ◌+◌, ◌
 use Rattle.std.specs.Prelude.{flat_map}
 use Rattle.std.specs.List.{AllByRecursion}
 use Rattle.std.proofs.lemmas.Bool.{eqb-true, eqb-false, ltb-false}
-use Rattle.std.proofs.lemmas.List.{length-take, append-nil}
+use Rattle.std.proofs.lemmas.List.{length-take, append-nil, take-take, nil_from_length}
 use Rattle.std.proofs.lemmas.Grind.{flat_map-append}
 use Rattle.text_defs.specs.Text.{end_line}
 use Rattle.sf_defs.specs.Rounds.{Round}
@@ -13,18 +13,6 @@ use Rattle.headline_defs.specs.StepText.{Subject, step_text, text_of_steps, whol
 use Rattle.headline_laws.proofs.Steps.{step-own}
 
 -- ---- the steps that are known
-
--- the first of some first elements
-take-take : {X : Type 0} (m n : ℕ) (xs : List X) → m ≤ n → take m (take n xs) ≡ take m xs
-take-take zero n xs h = refl
-take-take (suc m) zero xs h = absurd (omega arith)
-take-take (suc m) (suc n) [] h = refl
-take-take (suc m) (suc n) (x ∷ xs) h = ap (λ l. x ∷ l) (take-take m n xs (omega arith))
-
--- no elements
-only_nothing : {X : Type 0} (xs : List X) → length xs ≡ 0 → xs ≡ []
-only_nothing [] h = refl
-only_nothing (x ∷ xs) h = absurd (omega (arith, h))
 
 -- the steps that are not known
 later_steps : ℕ → List State → List State
@@ -89,7 +77,7 @@ module _ (x : Subject) (rounds : List Round) (n : ℕ) where
   all-known : drawn ≢ 0 → length front ≡ length (states x.mesh x.plan) → whole_text x (take n rounds) ≡ whole_text x rounds
   unfolding whole_text text_of_steps front later
   all-known some all =
-      let none : later ≡ [] = only_nothing later (omega (arith, ap length (known-front drawn (states x.mesh x.plan)), length-append front later)) in
+      let none : later ≡ [] = nil_from_length later (omega (arith, ap length (known-front drawn (states x.mesh x.plan)), length-append front later)) in
       let same : states x.mesh x.plan ≡ front = known-front drawn (states x.mesh x.plan) ∙ ap (λ l. front ++ l) none ∙ append-nil front in
       ap (λ steps. (full_head x.mesh x.plan.dofs x.plan.ranks ++ flat_map (step_text x (take n rounds)) steps) ++ end_line) same
       ∙ ap (λ t. (full_head x.mesh x.plan.dofs x.plan.ranks ++ t) ++ end_line) (front-text some)

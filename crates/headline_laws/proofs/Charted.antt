@@ -5,19 +5,18 @@ use Rattle.std.proofs.lemmas.Bool.{eqb-true, and_parts, or_cases, or_left, or_ri
 use Rattle.std.proofs.lemmas.List.Folds.{list_any-append}
 use Rattle.mesh_defs.specs.declared.Poly.TheVariants.{Segment}
 use Rattle.plain_lists.specs.Lists.{same_list, picked}
+use Rattle.plain_lists.proofs.Each.{all_from, all_weaker, all_both, all_map, all_append, all_enumerated, each_passes}
+use Rattle.plain_lists.proofs.Finding.{any_map, stands, found-any}
 use Rattle.mesh_defs.specs.Tables.{Facet, dim_of, facets_of, edges_of}
 use Rattle.mesh_defs.specs.Mesh.{Mesh, Cell, placed_cells}
 use Rattle.mesh_defs.specs.Points.{Point, Sight, point_of, shows, sights_of, sights, vertex_sight, vertex_sights, contains}
 use Rattle.mesh_defs.specs.Diagram.{stratum, strata, chart}
-use Rattle.mesh_laws.proofs.Places.{all_from, all_weaker, all_both, all_map, all_append, all_enumerated, any_map}
 use Rattle.mesh_laws.proofs.Containing.{sights_of-any_place, chart-all}
 use Rattle.mesh_laws.proofs.Firsts.{shows-true}
 use Rattle.mesh_laws.proofs.Vertices.{vertex_found}
 use Rattle.rank_laws.specs.Conditions.{IsSoundCell, IsSoundMesh, in_some}
-use Rattle.rank_laws.proofs.Lists.{stands}
-use Rattle.rank_laws.proofs.Strata.{found-any}
 use Rattle.rank_laws.proofs.Found.{shown-in_strata, shown-in_stratum}
-use Rattle.rank_laws.proofs.Shapes.{is_face_of, all-pass, facets-are_faces}
+use Rattle.rank_laws.proofs.Shapes.{is_face_of, facets-are_faces}
 
 -- what follows from each element that passes follows where some element does
 pub each_tells : {X : Type 0} (q : X → Bool) (b : Bool) (xs : List X) → AllByRecursion (λ x. q x ≡ true → b ≡ true) xs → list_any q xs ≡ true → b ≡ true
@@ -59,7 +58,7 @@ module _ (m : Mesh) where
           (all_weaker (λ (f : ℕ × Facet). is_face_of cell.poly f.1 ≡ true) (λ f. HasLevel (face f))
           (λ f h. inr (inr (eqb-true (dim_of f.1.poly) 2 (and_parts _ _ (and_parts _ _ h).0).1, sym good.dim ∙ eqb-true (dim_of cell.poly) 3 e)))
           (enumerate_from 0 (facets_of cell.poly))
-          (all_enumerated (λ f. is_face_of cell.poly f ≡ true) 0 (facets_of cell.poly) (all-pass (is_face_of cell.poly) (facets_of cell.poly) (facets-are_faces cell.poly (eqb-true (dim_of cell.poly) 3 e)))))
+          (all_enumerated (λ f. is_face_of cell.poly f ≡ true) 0 (facets_of cell.poly) (each_passes (is_face_of cell.poly) (facets_of cell.poly) (facets-are_faces cell.poly (eqb-true (dim_of cell.poly) 3 e)))))
 
 module _ (m : Mesh) (sound : IsSoundMesh m) (p : Point) where
   -- a point that cells see at such a level is shown

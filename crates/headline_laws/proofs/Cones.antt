@@ -4,20 +4,21 @@ use Rattle.std.specs.List.{list_any, AllByRecursion, filter, enumerate_from}
 use Rattle.std.proofs.lemmas.Bool.{eqb-true, eq-eqb, and_parts, and_from, or_left, or_right, cases_lt, not-true}
 use Rattle.std.proofs.lemmas.List.Folds.{list_any-append}
 use Rattle.plain_lists.specs.Lists.{below, picked}
+use Rattle.plain_lists.proofs.Each.{all_from, all_weaker, all_both, all_map, all_flat_map, all_enumerated, all_contained}
+use Rattle.plain_lists.proofs.Finding.{any_weaker, each_fails, none_passes, same_tests, any_filter, found-any}
+use Rattle.plain_lists.proofs.Filters.{map_same, filter_passing}
 use Rattle.mesh_defs.specs.Tables.{Facet, facets_of}
 use Rattle.mesh_defs.specs.Mesh.{Mesh, Cell, placed_cells}
 use Rattle.mesh_defs.specs.Points.{Point, Sight, point_on, point_of, shows, contains}
 use Rattle.mesh_defs.specs.Diagram.{strata, chart, place_in, entry, cone, IsAccepted}
-use Rattle.mesh_laws.proofs.Places.{all_from, all_weaker, all_both, all_map, all_flat_map, all_enumerated, any_weaker, map_same, each_fails, none_passes, filter_passing}
 use Rattle.mesh_laws.proofs.Containing.{chart-all}
-use Rattle.mesh_laws.proofs.Firsts.{shows-true, shows-own, same_point-sym, same_tests}
+use Rattle.mesh_laws.proofs.Firsts.{shows-true, shows-own, same_point-sym}
 use Rattle.mesh_defs.specs.Sights.{points_differ}
 use Rattle.text_defs.specs.Text.{Rank, number_of}
 use Rattle.rank_defs.specs.Ranks.{IsAssignment, assigned, held_cells, held, owner, owned}
 use Rattle.rank_defs.specs.Home.{point_number}
 use Rattle.rank_laws.specs.Conditions.{in_some, IsFlatOrSolid, IsSoundMesh}
-use Rattle.rank_laws.proofs.Lists.{any_filter}
-use Rattle.rank_laws.proofs.Strata.{found-any, strata-differ}
+use Rattle.rank_laws.proofs.Strata.{strata-differ}
 use Rattle.rank_laws.proofs.Found.{IsSeen}
 use Rattle.rank_laws.proofs.Facets.{Covers, strata-cover}
 use Rattle.rank_laws.proofs.Owning.{owner-assigned, owner-below}
@@ -93,12 +94,6 @@ chart-number m n a layers bases p parts h =
 
 -- ---- cones
 
--- what all have, each has
-contained : {X : Type 0} (P : X → Type 0) (xs : List X) (x : X) → AllByRecursion P xs → Contains xs x → P x
-contained P [] x h (k, low, at) = absurd (omega arith)
-contained P (y ∷ ys) x h (zero, low, at) = subst P at h.0
-contained P (y ∷ ys) x h (suc k, low, at) = contained P ys x h.1 (k, omega arith, at)
-
 pub cone-numbers : (m : Mesh) (n : ℕ) (a : List ℕ) (layers : ℕ) (bases : List ℕ) (s : Sight) → IsSoundMesh m → IsAccepted m → IsAssignment m n a → Contains (strata m) s → cone m (number_of (ranks_with m n a layers bases)) s ≡ cone m (point_number m a bases) s
 unfolding cone entry
 cone-numbers m n a layers bases s sound accepted parts there =
@@ -109,7 +104,7 @@ cone-numbers m n a layers bases s sound accepted parts there =
     let shown = found-any (shows q) (strata m) seen.point seen.found in
     let same = chart-number m n a layers bases q parts (ap (list_any (shows q)) (chart-all m sound.used) ∙ shown) in
     (λ i. record { point = same i; o = (entry m (point_number m a bases) s.arrangement f).o }))
-    (facets_of s.poly) (contained (Covers m sound accepted) (strata m) s (strata-cover m sound accepted) there))
+    (facets_of s.poly) (all_contained (Covers m sound accepted) (strata m) s (strata-cover m sound accepted) there))
 
 -- ---- printed numbers
 
@@ -172,6 +167,6 @@ module _ (m : Mesh) (n : ℕ) (a : List ℕ) (layers : ℕ) (bases : List ℕ) (
 
   pub printed-numbers : (x : ℕ × Sight) → Contains (numbered (ranks_with m n a layers bases)) x → x.0 ≡ point_number m a bases (point_of x.1)
   unfolding ranks_with IsNumbered
-  printed-numbers x = contained IsNumbered (numbered (ranks_with m n a layers bases)) x
+  printed-numbers x = all_contained IsNumbered (numbered (ranks_with m n a layers bases)) x
       (all_flat_map IsNumbered (λ (r : Rank). enumerate_from r.base r.owned) (ranks_with m n a layers bases)
       (all_map (λ (r : Rank). AllByRecursion IsNumbered (enumerate_from r.base r.owned)) _ (below n) (all_from _ rank-numbered (below n))))

@@ -10,6 +10,7 @@ use Rattle.std.proofs.lemmas.List.FromFn.{length-enumerate_from}
 use Rattle.std.proofs.lemmas.List.Sums.{sum_by-cons, sum_by-append, sum-map}
 use Rattle.std.proofs.lemmas.Slice.Zip.{get_or-zip, length-zip}
 use Rattle.plain_lists.specs.Lists.{below}
+use Rattle.plain_lists.proofs.Below.{length-below, get_or-below, map-below-length}
 use Rattle.mesh_defs.specs.Mesh.{Mesh}
 use Rattle.mesh_defs.specs.Points.{Sight}
 use Rattle.text_defs.specs.Text.{Rank}
@@ -21,7 +22,6 @@ use Rattle.sf_defs.specs.Rounds.{Round, added, asks_on, rank_entries, entries}
 use Rattle.rank_defs.specs.Home.{IsNumberRound, number_asks, bases_of}
 use Rattle.rank_defs.specs.Ranks.{owned}
 use Rattle.round_laws.specs.LastValues.{word_after, took}
-use Rattle.round_laws.proofs.Below.{length-below, get_or-below, map-below-length}
 use Rattle.round_laws.proofs.LastValues.{legal-last}
 use Rattle.round_laws.proofs.Sums.{legal-sums}
 use Rattle.headline_defs.specs.StepText.{ranks_with, numbered}

@@ -6,11 +6,13 @@ use Rattle.std.specs.List.{enumerate_from, AllByRecursion}
 use Rattle.std.proofs.lemmas.Bool.{eq-eqb}
 use Rattle.std.proofs.Math.Nat.{div-eq_of_lt}
 use Rattle.plain_lists.specs.Lists.{below}
+use Rattle.plain_lists.proofs.Each.{all_from, all_map, all_weaker}
+use Rattle.plain_lists.proofs.Filters.{filter_whole, flat_map_same}
+use Rattle.plain_lists.proofs.Below.{below-all}
+use Rattle.plain_lists.proofs.Least.{least-bound}
 use Rattle.mesh_defs.specs.Mesh.{Mesh, Mark, Section, Cell, placed_cells}
 use Rattle.mesh_defs.specs.Points.{Point, Sight, point_of, same_point, contains}
 use Rattle.mesh_defs.specs.Diagram.{chart, cone}
-use Rattle.mesh_laws.proofs.Places.{all_from, all_map, all_weaker, filter_whole, flat_map_same}
-use Rattle.mesh_laws.proofs.Containing.{below-all}
 use Rattle.text_defs.specs.Text.{alone, number_of, tag, line, mesh_line, ranks_line, tail_text, point_line, head_text, rank_text, total_text, point_text, points_text, step_line, plain_step_text as plain_step, end_line, plain_text}
 use Rattle.sf_defs.specs.declared.Op.TheVariants.{Sum}
 use Rattle.sf_defs.specs.declared.Ask.{Ask}
@@ -20,7 +22,6 @@ use Rattle.sf_defs.specs.Rounds.{Round, entry_at, printed_turns}
 use Rattle.plex_defs.specs.Labels.{values_at, label_of, marked_point}
 use Rattle.rank_defs.specs.Home.{IsNumberRound, number_asks, bases_of}
 use Rattle.rank_defs.specs.Ranks.{least, rank_of, assigned, held_cells, held, ranks_at, owner, owned}
-use Rattle.rank_laws.proofs.Lists.{least-bound}
 use Rattle.input_defs.specs.Plans.{Part, Block, plain_plan, rank_by}
 use Rattle.input_defs.specs.Further.{name_line, section_line, labels_at, label_text, labels_text, data_at, values_text, data_text, full_head}
 use Rattle.headline_defs.specs.States.{State, states, assignment, first_ranks}

@@ -18,22 +18,6 @@ first_cause-none {E} (c ∷ cs) h = go c.0 refl h (first_cause-none cs)
     go true e g r = absurd (cc g)
     go false e g r = (e, r g)
 
--- both of two lists
-pub all_apart : {A : Type 0} (P : A → Type 0) (xs ys : List A) → AllByRecursion P (xs ++ ys) → AllByRecursion P xs × AllByRecursion P ys
-all_apart P [] ys h = (tt, h)
-all_apart P (x ∷ xs) ys h = let rest = all_apart P xs ys h.1 in ((h.0, rest.0), rest.1)
-
--- each part of a flat map
-pub all_parts : {A B : Type 0} (P : B → Type 0) (f : A → List B) (xs : List A) → AllByRecursion P (flat_map f xs) → AllByRecursion (λ x. AllByRecursion P (f x)) xs
-all_parts P f [] h = tt
-all_parts P f (x ∷ xs) h = let both = all_apart P (f x) (flat_map f xs) h in (both.0, all_parts P f xs both.1)
-
--- an element of a list
-pub all_contained : {A : Type 0} (P : A → Type 0) (xs : List A) (x : A) → AllByRecursion P xs → Contains xs x → P x
-all_contained P [] x h c = absurd (omega (arith, c.1))
-all_contained P (y ∷ ys) x h (zero, below, same) = subst P same h.0
-all_contained P (y ∷ ys) x h (suc k, below, same) = all_contained P ys x h.1 (k, omega (arith, below), same)
-
 -- an answer of two steps
 pub bind-ok : {A B E : Type 0} (r : Result A E) (k : A → Result B E) (y : B) → (r >>= k) ≡ Ok y → (x : A) × (r ≡ Ok x) × (k x ≡ Ok y)
 bind-ok (Ok x) k y h = (x, refl, h)

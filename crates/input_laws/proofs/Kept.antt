@@ -5,25 +5,22 @@ use Rattle.std.specs.List.{list_any, AllByRecursion}
 use Rattle.std.specs.Cmp.Lexicographic.{same_text}
 use Rattle.std.proofs.lemmas.Bool.{or_parts, and_parts, eqb-true, cond-true, cond-false, eq-eqb}
 use Rattle.plain_lists.specs.Lists.{sorted, same_list}
+use Rattle.plain_lists.proofs.Each.{all_both, all_filter, all_weaker}
+use Rattle.plain_lists.proofs.Finding.{none_passes, any_same}
+use Rattle.plain_lists.proofs.Sorted.{same_list-self}
 use Rattle.mesh_defs.specs.Mesh.{Mesh}
 use Rattle.input_defs.specs.Content.{Element, Content}
 use Rattle.input_defs.specs.declared.MeshFault.TheVariants.{NoCells, TooManyCells}
 use Rattle.input_defs.specs.Causes.{unless}
 use Rattle.input_defs.specs.Meshes.{dim, same_nodes, same_place, kept_after, kept, is_top, greatest_dim, cell_elements, mesh_of, twist, accepted}
-use Rattle.mesh_laws.proofs.Places.{all_both, all_filter, none_passes, all_weaker, any_same}
 use Rattle.input_laws.specs.Sublists.{IsSublist, differ_in_place}
 use Rattle.input_laws.proofs.Causes.{unless-ok}
 
 -- ---- the test of places is an equivalence
 
--- a list is equal to itself
-pub same_list-refl : (xs : List ℕ) → same_list xs xs ≡ true
-same_list-refl [] = refl
-same_list-refl (x ∷ xs) = ap₂ (λ a b. a && b) (eq-eqb x x refl) (same_list-refl xs)
-
 -- an element has its own place
 pub same_place-refl : (e : Element) → same_place e e ≡ true
-same_place-refl e = ap₂ (λ a b. a && b) (eq-eqb (dim e) (dim e) refl) (same_list-refl (sorted e.nodes))
+same_place-refl e = ap₂ (λ a b. a && b) (eq-eqb (dim e) (dim e) refl) (same_list-self (sorted e.nodes))
 
 -- elements at one place are at the place of the same ones
 pub same_place-same : (e f g : Element) → same_place e f ≡ true → same_place e g ≡ same_place f g
@@ -123,15 +120,6 @@ accepted-mesh c m h = go (nat_lt (greatest_dim c) 2) (nat_lt 250000 (length (cel
     go true b e = absurd (cc e)
     go false true e = absurd (cc e)
     go false false e = (unless-ok (twist c) (mesh_of c) m e).1
-
--- what passes a test
-pub all_passing : {A : Type 0} (p : A → Bool) (xs : List A) → AllByRecursion (λ x. p x ≡ true) (filter p xs)
-all_passing p [] = tt
-all_passing p (x ∷ xs) = go (p x) refl (all_passing p xs)
-  where
-    go : (b : Bool) → p x ≡ b → AllByRecursion (λ y. p y ≡ true) (filter p xs) → AllByRecursion (λ y. p y ≡ true) (cond b (x ∷ filter p xs) (filter p xs))
-    go true e r = (e, r)
-    go false e r = r
 
 -- ---- cells among the elements of a file
 

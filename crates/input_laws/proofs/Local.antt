@@ -1,4 +1,4 @@
--- What a body says up to a line does not hang on what stands behind that line: readers are local.
+-- What a body says up to a line does not depend on what stands after that line: readers are local.
 use Rattle.std.proofs.Common.{◌≡◌, ℕ, zero, suc, ◌<◌, ◌≤◌, Bool, true, false, cond, ◌==◌, List, [], ◌∷◌, ◌++◌, Option, Some, None, Ok, Err, refl, sym, ap, ◌∙◌, subst, arith}
 use Rattle.std.specs.Prelude.{Result}
 use Rattle.std.specs.List.{AllByRecursion}
@@ -6,7 +6,7 @@ use Rattle.std.proofs.lemmas.Bool.{ne_eqb, cond-false}
 use Rattle.scan_defs.specs.declared.NumberFault.{NumberFault}
 use Rattle.input_defs.specs.Bodies.{Lexeme, Faults, Reader, give, ◌>>=◌, read_on, many, with_rest, number_where, tested, after_line, text_where, quoted, nothing_left, whole}
 
--- tokens behind a line, and tokens up to it
+-- tokens after a line, and tokens up to it
 abbrev pub Beyond : ℕ → List Lexeme → Type 0
 Beyond l ws = AllByRecursion (λ (w : Lexeme). l < w.line) ws
 
@@ -23,12 +23,12 @@ pub record SameButEnd {E : Type 0} (f g : Faults E) : Type 0 where
   pub number : (e : NumberFault) (l : ℕ) → f.number e l ≡ g.number e l
   pub name : (l : ℕ) → f.name l ≡ g.name l
 
--- the fault is behind a line, or so are all tokens that are left
+-- the fault is after a line, or so are all tokens that are left
 abbrev pub Late : {E A : Type 0} → (E → ℕ) → ℕ → Result (A × List Lexeme) E → Type 0
 Late at l (Ok got) = Beyond l got.1
 Late at l (Err e) = l < at e
 
--- What a reader does with tokens up to a line, and others behind it: it comes to those behind, or it stops before them in
+-- What a reader does with tokens up to a line, and others after it: it comes to those after, or it stops before them in
 -- the same way whatever they are.
 pub data Outcome {E A : Type 0} (at : E → ℕ) (l : ℕ) (r : Reader E A) (f : Faults E) (ps xs : List Lexeme) : Type 0 where
   passes : Late at l (r f (ps ++ xs)) → Outcome at l r f ps xs
@@ -105,7 +105,7 @@ tested-local {E} {A} {B} at number_of test told = record { beyond = beyond-of; b
 
 -- ---- a quoted text
 
--- what is behind the tokens of a line
+-- what is after the tokens of a line
 behind-beyond : (l line : ℕ) (ws : List Lexeme) → Beyond l ws → Beyond l (after_line line ws)
 behind-beyond l line [] late = tt
 behind-beyond l line (w ∷ ws) late = go (w.line == line) (behind-beyond l line ws late.1)
@@ -152,18 +152,18 @@ quoted-local {E} at = record { beyond = beyond-of; before = before-of }
 
 -- ---- a whole body
 
--- a fault of what is left behind a line is behind it
+-- a fault of what is left after a line is after it
 left_beyond : {E A : Type 0} (at : E → ℕ) (extra : ℕ → E) → ((l : ℕ) → at (extra l) ≡ l) → (l : ℕ) (o : Result (A × List Lexeme) E) (e : E) → Late at l o → nothing_left extra o ≡ Err e → l < at e
 left_beyond at extra told l (Ok (x, [])) e late h = absurd (cc h)
 left_beyond at extra told l (Ok (x, w ∷ ws)) e late h = let same : extra w.line ≡ e = cc h in let on : at e ≡ w.line = ap at (sym same) ∙ told w.line in omega (arith, on, late.0)
 left_beyond at extra told l (Err e') e late h = let same : e' ≡ e = cc h in let on : at e' ≡ at e = ap at same in omega (arith, on, late)
 
--- a fault of tokens behind a line is behind it
+-- a fault of tokens after a line is after it
 pub whole-beyond : {E A : Type 0} (at : E → ℕ) (extra : ℕ → E) (r : Reader E A) → ((l : ℕ) → at (extra l) ≡ l) → IsLocal at r
     → (l : ℕ) (f : Faults E) (xs : List Lexeme) (e : E) → TellLines at f → l < at f.ended → Beyond l xs → whole extra r f xs ≡ Err e → l < at e
 whole-beyond {E} {A} at extra r told local l f xs e tell end beyond h = left_beyond at extra told l (r f xs) e (local.beyond l f xs tell end beyond) h
 
--- a fault up to a line is there whatever stands behind it
+-- a fault up to a line is there whatever stands after it
 pub whole-before : {E A : Type 0} (at : E → ℕ) (extra : ℕ → E) (r : Reader E A) → ((l : ℕ) → at (extra l) ≡ l) → IsLocal at r
     → (l : ℕ) (f g : Faults E) (ps xs ys : List Lexeme) (e : E) → TellLines at f → l < at f.ended → SameButEnd f g → Upto l ps → Beyond l xs → Beyond l ys
     → whole extra r f (ps ++ xs) ≡ Err e → at e ≤ l → whole extra r g (ps ++ ys) ≡ Err e

@@ -6,6 +6,7 @@ use Rattle.std.proofs.lemmas.Grind.{flat_map-append}
 use Rattle.std.proofs.lemmas.List.{map-append, take-append-drop, take-append-le, length-take}
 use Rattle.std.proofs.lemmas.List.Sums.{sum_by-cons}
 use Rattle.std.proofs.Math.Seq.{take-length}
+use Rattle.plain_lists.proofs.Each.{all_both, all_weaker, all_flat_map, all_append_first}
 use Rattle.line_defs.specs.Rows.{is_newline, parts, onto_first, lines_of}
 use Rattle.scan_defs.specs.declared.Token.{Token}
 use Rattle.scan_defs.specs.Lines.{Line, lines_at, line_number, lines_from, is_indent}
@@ -17,7 +18,6 @@ use Rattle.input_laws.specs.FaultLines.{line_of}
 use Rattle.input_laws.proofs.Local.{Beyond, Upto}
 use Rattle.input_laws.proofs.LocalFiles.{BeyondBlock, AllBeyond, block_of, Rests, said-beyond, said-before}
 use Rattle.input_laws.proofs.LocalLines.{Stands, SaysSame, token_of, items_on-same, items_on-late, file-stands, lines-apart, numbers-low, numbers-late}
-use Rattle.mesh_laws.proofs.Places.{all_both, all_weaker, all_flat_map, all_append_first}
 
 -- ---- bodies
 
@@ -158,7 +158,7 @@ last-line : (bytes : List ℕ) → line_number bytes (length bytes) ≡ length (
 unfolding line_number lines_of
 last-line bytes = ap (λ (bs : List ℕ). count_by is_newline bs + 1) (take-length bytes) ∙ sym (length-parts is_newline bytes)
 
--- a file cut behind a line
+-- a file cut after a line
 record Halves (bytes : List ℕ) (l : ℕ) : Type 0 where
   later : List Item
   whole : items bytes ≡ flat_map items_on (lines_at 0 1 (take l (lines_of bytes))) ++ later
@@ -240,7 +240,7 @@ fault-local a b e l fault low short agree = go (has_header is) refl
           (ap (said (line_number a (length a)) Opening nothing) (sym (blocks-open a is first.later h)) ∙ said_a),
     ))
 
--- an LF behind a file adds an empty line
+-- an LF after a file adds an empty line
 lines-longer : (bytes : List ℕ) → parts is_newline (bytes ++ 10 ∷ []) ≡ parts is_newline bytes ++ [] ∷ []
 lines-longer [] = refl
 lines-longer (b ∷ bs) = go (is_newline b) (parts is_newline bs) (length-parts is_newline bs) (lines-longer bs)
@@ -251,7 +251,7 @@ lines-longer (b ∷ bs) = go (is_newline b) (parts is_newline bs) (length-parts 
     go false [] r same = absurd (omega (arith, r))
     go false (text ∷ texts) r same = ap (onto_first b) same
 
--- the same where the fault is on the last line and not at the end of the file: it stays where an LF stands behind
+-- the same where the fault is on the last line and not at the end of the file: it stays where an LF stands after
 pub last-local : (a b : List ℕ) (e : MshFault) (l : ℕ) → content (a ++ 10 ∷ []) ≡ Err e → line_of e ≤ l → l ≤ length (lines_of a) → take l (lines_of a) ≡ take l (lines_of b) → content b ≡ Err e
 unfolding lines_of
 last-local a b e l fault low short agree =

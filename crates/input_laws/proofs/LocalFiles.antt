@@ -1,4 +1,4 @@
--- What the blocks of a file say up to a line does not hang on what stands behind that line.
+-- What the blocks of a file say up to a line does not depend on what stands after that line.
 use Rattle.std.proofs.Common.{◌≡◌, ℕ, ◌<◌, ◌≤◌, Bool, true, false, cond, not, List, [], ◌∷◌, ◌++◌, Option, Some, None, Ok, Err, refl, sym, ap, ap₂, ◌∙◌, subst, arith}
 use Rattle.std.specs.Prelude.{Result, find, option_map, is_none}
 use Rattle.std.specs.List.{AllByRecursion}
@@ -52,7 +52,7 @@ unfinished-line parts l e h = first_cause-line l ((not parts.format, NotMsh l) �
 
 -- ---- one section
 
--- a section's answer is local, where the body ends behind the line
+-- a section's answer is local, where the body ends after the line
 record IsSectionLocal (answer : ℕ → MshFault → List Lexeme → Result Parts MshFault) : Type 0 where
   beyond : (l end : ℕ) (ended : MshFault) (xs : List Lexeme) (e : MshFault) → l < end → l < line_of ended → Beyond l xs → answer end ended xs ≡ Err e → l < line_of e
   before : (l end end' : ℕ) (ended ended' : MshFault) (ps xs ys : List Lexeme) (e : MshFault) → l < end → l < line_of ended → Upto l ps → Beyond l xs → Beyond l ys
@@ -120,7 +120,7 @@ with_section-local parts (Data on) = record {
       ap (map_ok _) (ap (of_data ended') (whole-before data_line_of data_fault.BadCount (section on (file_numbers parts on)) (λ k. refl) (section-local on (file_numbers parts on)) l (faults_at end) (faults_at end') ps xs ys d.0 (data-tell end) less (same-data end end') upto x y d.1 both.0) ∙ both.1);
 }
 
--- ---- blocks behind a line
+-- ---- blocks after a line
 
 unfoldable pub BeyondBlock : ℕ → Block → Type 0
 BeyondBlock l b = (l < b.line) × Beyond l b.body
@@ -192,7 +192,7 @@ finished-beyond l end Opening parts e less h = go (unfinished parts end) refl h
 finished-beyond l end (Closing name) parts e less h = at_line l end e (Unclosed end) refl less h
 finished-beyond l end (Skipping name) parts e less h = at_line l end e (Unclosed end) refl less h
 
--- a fault of blocks behind a line is behind it
+-- a fault of blocks after a line is after it
 pub said-beyond : (l end : ℕ) (due : Expected) (parts : Parts) (bs : List Block) (e : MshFault) → l < end → AllBeyond l bs → said end due parts bs ≡ Err e → l < line_of e
 unfolding said
 said-beyond l end due parts [] e less beyond h = finished-beyond l end due parts e less h
@@ -207,7 +207,7 @@ said-beyond l end due parts (b ∷ bs) e less beyond h = go (with_block end due 
 abbrev pub block_of : List ℕ → ℕ → List Lexeme → Block
 block_of name line body = record { name = name; line = line; body = body }
 
--- what stands behind the line in one file and in the other
+-- what stands after the line in one file and in the other
 pub record Rests (l end : ℕ) (ps xs ys : List Lexeme) (us : List Block) : Type 0 where
   pub less : l < end
   pub upto : Upto l ps
@@ -265,7 +265,7 @@ step-same end end' Opening parts b us bs p q = go (known b.name)
 step-same end end' (Closing name) parts b us bs p q = refl
 step-same end end' (Skipping name) parts b us bs p q = refl
 
--- a fault up to a line is there whatever stands behind it
+-- a fault up to a line is there whatever stands after it
 pub said-before : (l end end' : ℕ) (due : Expected) (parts : Parts) (cs : List Block) (name : List ℕ) (line : ℕ) (ps xs ys : List Lexeme) (us bs : List Block) (e : MshFault) → Rests l end ps xs ys us → line_of e ≤ l
     → said end due parts (cs ++ block_of name line (ps ++ xs) ∷ us) ≡ Err e → said end' due parts (cs ++ block_of name line (ps ++ ys) ∷ bs) ≡ Err e
 unfolding said

@@ -1,17 +1,17 @@
--- What stands on the lines of a file hangs on these lines alone.
+-- What stands on the lines of a file depends on these lines alone.
 use Rattle.std.proofs.Common.{◌≡◌, ◌⊎◌, ℕ, suc, ◌+◌, ◌-◌, ◌<◌, ◌≤◌, Bool, true, false, cond, not, List, [], ◌∷◌, ◌++◌, length, take, drop, Option, Some, None, inl, inr, ⊎_elim, refl, sym, ap, ap₂, ◌∙◌, arith, append_assoc, append-nil, length-append, length-drop}
 use Rattle.std.specs.Prelude.{option_map, slice_range}
 use Rattle.std.specs.List.{AllByRecursion, before_first, position_or_len}
 use Rattle.std.proofs.lemmas.Bool.{and_parts, leb-true, eqb-true, cases_lt}
 use Rattle.std.proofs.lemmas.List.{drop-append-le, take-append-le, length-take}
 use Rattle.std.proofs.Math.Seq.{drop-append-add}
+use Rattle.plain_lists.proofs.Each.{all_map, all_weaker}
 use Rattle.line_defs.specs.Rows.{is_blank, is_newline, parts, onto_first, lines_of, is_some_bytes}
 use Rattle.scan_defs.specs.declared.Token.{Token}
 use Rattle.scan_defs.specs.Lines.{Line, lines_at, rest_of_line, front, back}
 use Rattle.scan_defs.specs.Items.{Item, Header, Word, text_of, is_header, name_of, tokens_at, tokens_on, words_on, items_on}
 use Rattle.scan_defs.specs.Quotes.{is_quoted, quoted_on, line_from}
 use Rattle.input_defs.specs.Bodies.{Lexeme, lexeme_of}
-use Rattle.mesh_laws.proofs.Places.{all_map, all_weaker}
 
 -- a front is not longer than the list
 length_take : (n : ℕ) (xs : List ℕ) → length (take n xs) ≤ length xs
@@ -123,7 +123,7 @@ lexeme-same a b line t s u w = ap₂ (λ (x : List ℕ) (q : Option (List ℕ)).
 
 -- ---- the items of a line
 
--- the length of runs with one blank behind each
+-- the length of runs with one blank after each
 total : List (List ℕ) → ℕ
 total [] = 0
 total (run ∷ runs) = length run + 1 + total runs
@@ -200,7 +200,7 @@ items_on-same a b l line s u low = go (is_header line.text)
     go true = ((name-text a b line s u, omega (arith, name-number line, low)), tt)
     go false = all_map (SaysSame a b l) Word (tokens_on line) (all_weaker (Within line) (λ t. (lexeme_of a t ≡ lexeme_of b t) × (t.line ≤ l)) (λ t w. (lexeme-same a b line t s u w, omega (arith, w.number, low))) (tokens_on line) (tokens-within line))
 
--- the items of a line behind this one
+-- the items of a line after this one
 pub items_on-late : (l : ℕ) (line : Line) → l < line.number → AllByRecursion (λ item. l < (token_of item).line) (items_on line)
 unfolding items_on
 items_on-late l line late = go (is_header line.text)

@@ -4,12 +4,12 @@ use Rattle.std.specs.Prelude.{Result, Contains, nat_lt, is_none}
 use Rattle.std.specs.List.{AllByRecursion}
 use Rattle.std.proofs.lemmas.Bool.{or_parts, eqb-false, leb-false, not-false}
 use Rattle.std.proofs.Math.Nat.{div-lt_iff_lt-mul, mod-lt, mul-lt-mul_of_pos_right, mul_comm}
+use Rattle.plain_lists.proofs.Each.{all_at, all_in_flat_map, all_contained}
 use Rattle.line_defs.specs.Rows.{lines_of, tokens_of}
 use Rattle.input_defs.specs.declared.PlanFault.{PlanFault}
 use Rattle.input_defs.specs.declared.PlanFault.TheVariants.{Word, Ranks}
 use Rattle.input_defs.specs.Plans.{Plan, Spread, Block, Stripe, Listed, Part, Layers, Form, IsRanks, IsMove, IsDofs, IsShow, Before, before_any_line, both, form_of, with_form, with_line, plan_with, plan_from, plan_of, rank_by, ranks_above, misfits, misfit}
-use Rattle.mesh_laws.proofs.Places.{all_at}
-use Rattle.input_laws.proofs.Causes.{unless-ok, first_cause-none, all_parts, all_contained, bind-ok}
+use Rattle.input_laws.proofs.Causes.{unless-ok, first_cause-none, bind-ok}
 
 -- ---- a plan has at least one rank
 
@@ -87,4 +87,4 @@ unfolding misfit
 rank-below bytes plan cells line spread cell read fits there below =
     rank_by-below plan.ranks cells line spread cell (plan_of-ranks bytes plan read)
     (all_contained (λ m. AllByRecursion (λ (c : Bool × PlanFault). c.0 ≡ false) (misfits plan.ranks cells m)) plan.moves (line, Part spread)
-    (all_parts (λ (c : Bool × PlanFault). c.0 ≡ false) (misfits plan.ranks cells) plan.moves (first_cause-none _ fits)) there) below
+    (all_in_flat_map (λ (c : Bool × PlanFault). c.0 ≡ false) (misfits plan.ranks cells) plan.moves (first_cause-none _ fits)) there) below

@@ -124,7 +124,7 @@ some-of : {A : Type 0} (o : Option A) → is_none o ≡ false → (x : A) × (o 
 some-of None h = absurd (cc h)
 some-of (Some x) h = (x, refl)
 
--- elements were read behind nodes, and have nodes of these
+-- elements were read after nodes, and have nodes of these
 AreRight : Parts → Type 0
 AreRight parts = (es : List Element) → parts.elements ≡ Some es → (ns : List Node) × (parts.nodes ≡ Some ns) × AreKnown (numbers_of ns) es
 

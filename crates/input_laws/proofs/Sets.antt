@@ -5,13 +5,16 @@ use Rattle.std.specs.List.{list_any, AllByRecursion}
 use Rattle.std.specs.Cmp.Lexicographic.{same_text}
 use Rattle.std.proofs.lemmas.Bool.{le-leb, lt-leb, cases_lt, eqb-true, eq-eqb, or_left, or_right, and_parts, or_parts, not-true, cond-true, cond-false}
 use Rattle.plain_lists.specs.Lists.{sorted, inserted, same_list, differ_as_sets}
+use Rattle.plain_lists.proofs.Each.{all_both, all_weaker, all_filter}
+use Rattle.plain_lists.proofs.Finding.{any_map}
+use Rattle.plain_lists.proofs.Sorted.{same_list-self}
+use Rattle.plain_lists.proofs.Filters.{filter_passing}
 use Rattle.mesh_defs.specs.Mesh.{Cell}
 use Rattle.input_defs.specs.Content.{Node, Element, Content}
 use Rattle.input_defs.specs.Sections.{has_number}
 use Rattle.input_defs.specs.Meshes.{dim, is_top, greatest_dim, same_place, kept_after, kept, vertex_nodes, vertex_of, cell_of, cell_elements}
-use Rattle.mesh_laws.proofs.Places.{all_both, all_weaker, all_filter, any_map}
 use Rattle.input_laws.specs.Sublists.{differ_in_place}
-use Rattle.input_laws.proofs.Kept.{same_list-refl, all_passing, cells-differ}
+use Rattle.input_laws.proofs.Kept.{cells-differ}
 
 -- ---- sorted lists of images
 
@@ -59,7 +62,7 @@ sorted-map_inserted h x (w ∷ ws) = go (nat_le x w) (sorted-map_inserted h x ws
     go true r = refl
     go false r = ap (inserted (h w)) r ∙ inserted-any_order (h w) (h x) (sorted (map h ws))
 
--- sorting before a map does not matter where one sorts behind it
+-- sorting before a map does not matter where one sorts after it
 sorted-map : (h : ℕ → ℕ) (zs : List ℕ) → sorted (map h (sorted zs)) ≡ sorted (map h zs)
 unfolding sorted
 sorted-map h [] = refl
@@ -158,7 +161,7 @@ all-cells : (c : Content) → AreKnown (numbers_of c.nodes) c.elements → AllBy
 unfolding IsCell cell_elements kept
 all-cells c known =
     all_both (λ e. is_top c e ≡ true) (λ e. is_top c e ≡ true → GoesBack c e) (IsCell c) (λ e top back. (eqb-true (dim e) (greatest_dim c) top, back top)) (filter (is_top c) (kept_after [] c.elements))
-    (all_passing (is_top c) (kept_after [] c.elements))
+    (filter_passing (is_top c) (kept_after [] c.elements))
     (all_filter (λ e. is_top c e ≡ true → GoesBack c e) (is_top c) (kept_after [] c.elements) (all-kept (λ e. is_top c e ≡ true → GoesBack c e) [] c.elements
     (all_both (IsIn c.elements) (λ (e : Element). AllByRecursion (λ v. has_number (numbers_of c.nodes) v ≡ true) e.nodes) (λ e. is_top c e ≡ true → GoesBack c e) (goes_back c) c.elements (all-in c.elements) known)))
 
@@ -176,7 +179,7 @@ other-set c e f he hf other = go (same_list (sorted (positions c e)) (sorted (po
     go false h = refl
     go true h =
         let equal = sorted-back (vertex_of (vertex_nodes c)) (number_at (vertex_nodes c)) e.nodes f.nodes he.1 hf.1 (same_text (sorted (positions c e)) (sorted (positions c f)) (sym h)) in
-        absurd (true≢false (sym (ap₂ (λ a b. a && b) (eq-eqb (dim e) (dim f) (he.0 ∙ sym hf.0)) (ap (same_list (sorted e.nodes)) (sym equal) ∙ same_list-refl (sorted e.nodes))) ∙ other))
+        absurd (true≢false (sym (ap₂ (λ a b. a && b) (eq-eqb (dim e) (dim f) (he.0 ∙ sym hf.0)) (ap (same_list (sorted e.nodes)) (sym equal) ∙ same_list-self (sorted e.nodes))) ∙ other))
 
 other-sets : (c : Content) (e : Element) (fs : List Element) → IsCell c e → AllByRecursion (IsCell c) fs → list_any (same_place e) fs ≡ false
     → list_any (λ y. same_list (sorted (positions c e)) (sorted y)) (map (λ (cell : Cell). cell.vertices) (map (cell_of (vertex_nodes c)) fs)) ≡ false

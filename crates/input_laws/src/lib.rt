@@ -42,9 +42,9 @@ pub fn vertex_sets_differ()
     ensures { (bytes : List ℕ) (c : Content) (m : Mesh) → content bytes ≡ Ok c → accepted c ≡ Ok m → differ_as_sets (map (λ (cell : Cell). cell.vertices) m.cells) ≡ true }
 {}
 
-/// The first fault of a mesh file hangs on the file up to the end of the fault's line alone. For a fault at the end of the
+/// The first fault of a mesh file depends on the file up to the end of the fault's line alone. For a fault at the end of the
 /// file that is the whole file. On the last line of a file that does not end with LF, a fault is at the end where an LF
-/// behind the file changes it.
+/// after the file changes it.
 pub fn fault_is_local()
     ensures before_the_last_line { (a b : List ℕ) (fault : MshFault) (line : ℕ) → content a ≡ Err fault → line_of fault ≤ line → line < length (lines_of a) → take line (lines_of a) ≡ take line (lines_of b) → content b ≡ Err fault }
     ensures on_the_last_line { (a b : List ℕ) (fault : MshFault) (line : ℕ) → content (a ++ 10 ∷ []) ≡ Err fault → line_of fault ≤ line → line ≤ length (lines_of a) → take line (lines_of a) ≡ take line (lines_of b) → content b ≡ Err fault }

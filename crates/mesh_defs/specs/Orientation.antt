@@ -20,7 +20,7 @@ reversed n s = map (λ k. (n + s - k) % n) (below n)
 abbrev is_hex_edge : ℕ → ℕ → Bool
 is_hex_edge a b = list_any (λ e. same_list e (a ∷ b ∷ []) || same_list e (b ∷ a ∷ [])) (edges_of Hex)
 
--- c may stand behind these corners: it is another one, and has an edge to the earlier ones just where its place has
+-- c may stand after these corners: it is another one, and has an edge to the earlier ones just where its place has
 abbrev may_follow : List ℕ → ℕ → Bool
 may_follow corners c = not (list_any (λ d. d == c) corners)
     && list_all (λ at. (is_hex_edge at.0 (length corners) && is_hex_edge at.1 c) || (not (is_hex_edge at.0 (length corners)) && not (is_hex_edge at.1 c))) (enumerate_from 0 corners)

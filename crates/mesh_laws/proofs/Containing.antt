@@ -5,28 +5,19 @@ use Rattle.std.proofs.lemmas.Bool.{or_left, or_right, eqb-true, eq-eqb}
 use Rattle.std.proofs.lemmas.List.Folds.{list_any-append}
 use Rattle.mesh_defs.specs.declared.Poly.TheVariants.{Segment}
 use Rattle.plain_lists.specs.Lists.{below, sorted, picked}
+use Rattle.plain_lists.proofs.Each.{all_weaker, all_append, all_map, all_filter}
+use Rattle.plain_lists.proofs.Filters.{filter_whole}
+use Rattle.plain_lists.proofs.Finding.{any_same, any_map, any_enumerated, any_weaker, same_tests}
+use Rattle.plain_lists.proofs.Below.{below-all}
 use Rattle.mesh_defs.specs.Tables.{Facet, dim_of, facets_of, edges_of}
 use Rattle.mesh_defs.specs.Mesh.{Mesh, Cell, placed_cells}
 use Rattle.mesh_defs.specs.Points.{Point, Sight, same_point, point_on, point_of, shows, sights_of, sights, vertex_sight, vertex_sights, contains}
 use Rattle.mesh_defs.specs.Diagram.{firsts, stratum, strata, chart}
-use Rattle.mesh_laws.proofs.Places.{all_weaker, all_append, all_map, all_filter, filter_whole, any_same, any_map, any_enumerated, any_weaker}
-use Rattle.mesh_laws.proofs.Firsts.{shown_itself, firsts-all, same_tests}
-
--- ---- numbers below a bound
-
--- the numbers below n are below n
-pub below-all : (n : ℕ) → AllByRecursion (λ v. v < n) (below n)
-below-all zero = tt
-below-all (suc n) = all_append (λ v. v < suc n) (below n) (n ∷ []) (all_weaker (λ v. v < n) (λ v. v < suc n) (λ v h. omega arith) (below n) (below-all n)) (omega arith, tt)
-
--- there are n of them
-pub length-below : (n : ℕ) → length (below n) ≡ n
-length-below zero = refl
-length-below (suc n) = omega (arith, length-append (below n) (n ∷ []), length-below n)
+use Rattle.mesh_laws.proofs.Firsts.{shown_itself, firsts-all}
 
 -- ---- what a cell contains
 
--- which points a cell sees does not hang on the place of the cell
+-- which points a cell sees does not depend on the place of the cell
 pub sights_of-any_place : (p : Point) (c d : ℕ) (cell : Cell) → list_any (shows p) (sights_of (c, cell)) ≡ list_any (shows p) (sights_of (d, cell))
 unfolding sights_of
 sights_of-any_place p c d cell = without c (dim_of cell.poly == 3) ∙ sym (without d (dim_of cell.poly == 3))

@@ -8,13 +8,15 @@ use Rattle.std.proofs.lemmas.List.{map-append}
 use Rattle.mesh_defs.specs.Tables.{dim_of}
 use Rattle.mesh_defs.specs.declared.Poly.TheVariants.{Segment}
 use Rattle.plain_lists.specs.Lists.{same_list, sorted}
+use Rattle.plain_lists.proofs.Finding.{any_agree, position_agree, any_map, position_map, find-append_found, find-append_none, position-append_found, position-append_none, position-within, find-passes}
+use Rattle.plain_lists.proofs.Each.{all_weaker}
+use Rattle.plain_lists.proofs.Sorted.{same_list-self, same_list-turn}
 use Rattle.mesh_defs.specs.Orientation.{relative}
 use Rattle.mesh_defs.specs.Points.{Sight, point_of, shows}
 use Rattle.mesh_defs.specs.Diagram.{firsts}
 use Rattle.mesh_defs.specs.Sights.{IsEdgeEntry, IsEdgeSight, edge_sight, entry_among, edge_key}
-use Rattle.mesh_laws.proofs.Places.{any_agree, position_agree, any_map, position_map, all_weaker, find-append_found, find-append_none, position-append_found, position-append_none, position-within}
-use Rattle.mesh_laws.proofs.Firsts.{firsts-push, firsts-all, same_list-self, shows-own, list_any-firsts, firsts-prefix}
-use Rattle.mesh_laws.proofs.Turns.{sorted-two, sorted-min_max, relative-segment_same, relative-segment_turned, relative-segment_cases, find-passes}
+use Rattle.mesh_laws.proofs.Firsts.{firsts-push, firsts-all, shows-own, list_any-firsts, firsts-prefix}
+use Rattle.mesh_laws.proofs.Turns.{sorted-two, sorted-min_max, relative-segment_same, relative-segment_turned, relative-segment_cases}
 
 -- ---- the same edge
 
@@ -34,10 +36,6 @@ shows-edge_ends k l a b c d = ap₂ (λ x y. same_list x y) (sorted-min_max a b)
 -- the same edge has the same ends, in one order or the other
 ends-of_same : (a b c d : ℕ) → min a b ≡ min c d → max a b ≡ max c d → ((a ≡ c) × (b ≡ d)) ⊎ ((a ≡ d) × (b ≡ c))
 ends-of_same a b c d low high = ⊎_elim (λ (e : a ≡ c). inl (e, omega arith)) (λ (ne : a ≡ c → ⊥). inr (omega arith, omega arith)) (cases_eq a c)
-
--- equal lists are equal the other way round
-same_list-turn : (xs ys : List ℕ) → same_list xs ys ≡ true → same_list ys xs ≡ true
-same_list-turn xs ys h = let e = same_text xs ys (sym h) in subst (λ l. same_list l xs ≡ true) e (same_list-self xs)
 
 -- the orientation of an edge that another sight shows, by the first ends
 pub relative-edge : (a b c d : ℕ) → a ≢ b → same_list (sorted (c ∷ d ∷ [])) (sorted (a ∷ b ∷ [])) ≡ true → relative Segment (a ∷ b ∷ []) (c ∷ d ∷ []) ≡ Some (if a == c then pos 0 else negsuc 0)

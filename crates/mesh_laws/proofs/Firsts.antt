@@ -5,17 +5,14 @@ use Rattle.std.specs.List.{list_any, AllByRecursion}
 use Rattle.std.specs.Cmp.Lexicographic.{same_text}
 use Rattle.std.proofs.lemmas.Bool.{and_parts, eqb-true, eq-eqb, both_ways, cond-true, cond-false, not-true, or_right, or_from}
 use Rattle.plain_lists.specs.Lists.{same_list}
+use Rattle.plain_lists.proofs.Each.{all_both, all_weaker, all_from}
+use Rattle.plain_lists.proofs.Finding.{each_fails, same_tests}
+use Rattle.plain_lists.proofs.Sorted.{same_list-self}
 use Rattle.mesh_defs.specs.Points.{Point, Sight, same_point, point_of, shows}
 use Rattle.mesh_defs.specs.Diagram.{firsts_after, firsts}
 use Rattle.mesh_defs.specs.Sights.{points_differ}
-use Rattle.mesh_laws.proofs.Places.{all_both, all_weaker, all_from, each_fails}
 
 -- ---- the same point
-
--- a list is the same as itself
-pub same_list-self : (xs : List ℕ) → same_list xs xs ≡ true
-same_list-self [] = refl
-same_list-self (x ∷ xs) = rw (eq-eqb x x refl, same_list-self xs)
 
 -- points that pass the test are equal
 pub same_point-true : (p q : Point) → same_point p q ≡ true → p ≡ q
@@ -32,12 +29,6 @@ same_point-self p = rw (eq-eqb p.dim p.dim refl, same_list-self p.vertices)
 -- a sight shows its own point
 pub shows-own : (s : Sight) → shows (point_of s) s ≡ true
 shows-own s = same_point-self (point_of s)
-
--- two tests that imply each other are equal
-pub same_tests : (b c : Bool) → (b ≡ true → c ≡ true) → (c ≡ true → b ≡ true) → b ≡ c
-same_tests true c f g = sym (f refl)
-same_tests false true f g = g refl
-same_tests false false f g = refl
 
 -- the test of points is symmetric
 pub same_point-sym : (p q : Point) → same_point p q ≡ same_point q p

@@ -6,12 +6,13 @@ use Rattle.std.proofs.lemmas.Bool.{ne_eqb, and_left, both_ways}
 use Rattle.mesh_defs.specs.declared.Poly.{Poly}
 use Rattle.mesh_defs.specs.declared.Poly.TheVariants.{Vertex, Segment, Triangle, Quad, Tet, Hex}
 use Rattle.plain_lists.specs.Lists.{below, picked, same_list, sorted}
+use Rattle.plain_lists.proofs.Finding.{none_passes, find-append_none}
+use Rattle.plain_lists.proofs.Each.{all_map, all_from, all_weaker, all_at}
 use Rattle.mesh_defs.specs.Tables.{Facet, dim_of, facets_of, edges_of}
 use Rattle.mesh_defs.specs.Orientation.{act, relative}
 use Rattle.mesh_defs.specs.Mesh.{Mesh, Cell, placed_cells}
 use Rattle.mesh_defs.specs.Points.{Point, Sight, point_on, shows, sights_of, sights, vertex_sight, vertex_sights, first_sight, key, arrangement}
 use Rattle.mesh_defs.specs.Diagram.{seen_under}
-use Rattle.mesh_laws.proofs.Places.{none_passes, all_map, all_from, all_weaker, all_at, find-append_none}
 use Rattle.mesh_laws.proofs.Turns.{relative-carries}
 
 -- the keys rise from low on, and stay below high

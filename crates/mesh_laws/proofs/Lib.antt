@@ -1,8 +1,6 @@
-pub mod Places
 pub mod Firsts
 pub mod Turns
 pub mod Entries
 pub mod Containing
 pub mod Vertices
-pub mod Monotone
 pub mod Keys

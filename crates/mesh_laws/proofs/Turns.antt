@@ -5,6 +5,7 @@ use Rattle.std.proofs.lemmas.Bool.{cases_lt, le-leb, lt-leb, eq-eqb, ne_eqb, con
 use Rattle.mesh_defs.specs.declared.Poly.{Poly}
 use Rattle.mesh_defs.specs.declared.Poly.TheVariants.{Vertex, Segment}
 use Rattle.plain_lists.specs.Lists.{same_list, sorted}
+use Rattle.plain_lists.proofs.Finding.{find-passes}
 use Rattle.mesh_defs.specs.Orientation.{rotations, reflections, orientations, corners_under, act, relative}
 use Rattle.std.specs.Cmp.Lexicographic.{same_text}
 
@@ -59,15 +60,6 @@ relative-segment_cases from to = go (same_list (act Segment (negsuc 0) from) to)
     go true c = inl refl
     go false true = inr (inl refl)
     go false false = inr (inr refl)
-
--- what a search finds passes the test
-pub find-passes : {X : Type 0} (p : X → Bool) (xs : List X) (x : X) → find p xs ≡ Some x → p x ≡ true
-find-passes p [] x h = absurd (cc h)
-find-passes p (y ∷ ys) x h = go (p y) refl h (find-passes p ys x)
-  where
-    go : (b : Bool) → p y ≡ b → cond b (Some y) (find p ys) ≡ Some x → (find p ys ≡ Some x → p x ≡ true) → p x ≡ true
-    go true e f r = let same : y ≡ x = cc f in subst (λ z. p z ≡ true) same e
-    go false e f r = r f
 
 -- the relative orientation carries the one list to the other
 pub relative-carries : (poly : Poly) (from to : List ℕ) (o : ℤ) → relative poly from to ≡ Some o → act poly o from ≡ to

@@ -6,9 +6,10 @@ use Rattle.std.proofs.lemmas.Bool.{or_left, or_right, eq-eqb, ne_eqb, cases_lt, 
 use Rattle.std.proofs.lemmas.List.{length-map, map-append}
 use Rattle.std.proofs.lemmas.List.Folds.{list_any-append}
 use Rattle.plain_lists.specs.Lists.{below}
+use Rattle.plain_lists.proofs.Finding.{find-append_found, find-append_none, position-append_found, position-append_none}
+use Rattle.plain_lists.proofs.Below.{length-below}
 use Rattle.mesh_defs.specs.Points.{point_of, shows, vertex_sight}
-use Rattle.mesh_laws.proofs.Places.{find-append_found, find-append_none, position-append_found, position-append_none}
-use Rattle.mesh_laws.proofs.Containing.{length-below, shows-vertex}
+use Rattle.mesh_laws.proofs.Containing.{shows-vertex}
 
 -- the vertices below n
 pub vertex_above : (n v : ℕ) → n ≤ v → list_any (shows (point_of (vertex_sight v))) (map vertex_sight (below n)) ≡ false

@@ -6,6 +6,7 @@ use Rattle.std.proofs.lemmas.Bool.{and_parts, eqb-true, eq-eqb, both_ways, not-t
 use Rattle.std.proofs.lemmas.List.Folds.{list_all-append}
 use Rattle.mesh_defs.specs.declared.ConeEntry.{ConeEntry}
 use Rattle.plain_lists.specs.Lists.{below, same_list, sorted, picked}
+use Rattle.plain_lists.proofs.Below.{passes-below}
 use Rattle.mesh_defs.specs.Tables.{corner_count, facets_of, facet_at}
 use Rattle.mesh_defs.specs.Orientation.{rotations, reflections, orientations, corners_under, act, relative}
 use Rattle.mesh_defs.specs.Mesh.{Mesh, placed_cells}
@@ -35,21 +36,14 @@ arranged_at x lists p =
 abbrev pub is_arranged : Diagram → List (List ℕ) → Bool
 is_arranged x lists = (length lists == length x.points) && list_all (arranged_at x lists) (below (length x.points))
 
--- what all numbers below n pass, each passes
-all-below : (p : ℕ → Bool) (n i : ℕ) → list_all p (below n) ≡ true → i < n → p i ≡ true
-all-below p zero i h low = absurd (omega arith)
-all-below p (suc n) i h low =
-    let both = and_parts (list_all p (below n)) (list_all p (n ∷ [])) (sym (list_all-append p (below n) (n ∷ [])) ∙ h) in
-    ⊎_elim (λ (lt : i < n). all-below p n i both.0 lt) (λ (ge : n ≤ i). let same : n ≡ i = omega arith in ap p (sym same) ∙ (and_parts (p n) true both.1).0) (cases_lt i n)
-
 -- what passes the test is arranged
 pub arranged-by_test : (x : Diagram) (lists : List (List ℕ)) → is_arranged x lists ≡ true → IsArranged x lists
 arranged-by_test x lists h = record {
   count = eqb-true (length lists) (length x.points) both.0;
   corners = λ p low. eqb-true _ _ (parts p low).0.0;
-  different = λ p i j low before after same. both_ways _ (not-true _ (all-below (λ k. not (get_or (list_of lists p) k 0 == get_or (list_of lists p) j 0)) j i (all-below (is_new (list_of lists p)) (length (list_of lists p)) j (parts p low).0.1 after) before)) (eq-eqb _ _ same);
+  different = λ p i j low before after same. both_ways _ (not-true _ (passes-below (λ k. not (get_or (list_of lists p) k 0 == get_or (list_of lists p) j 0)) j i (passes-below (is_new (list_of lists p)) (length (list_of lists p)) j (parts p low).0.1 after) before)) (eq-eqb _ _ same);
   cones = λ p low. eqb-true _ _ (parts p low).1.0;
-  entries = λ p k low within. same_text _ _ (sym (all-below (carries x lists p) (length (point_in x p).covers) k (parts p low).1.1 within));
+  entries = λ p k low within. same_text _ _ (sym (passes-below (carries x lists p) (length (point_in x p).covers) k (parts p low).1.1 within));
 }
   where
     both : ((length lists == length x.points) ≡ true) × (list_all (arranged_at x lists) (below (length x.points)) ≡ true)
@@ -58,7 +52,7 @@ arranged-by_test x lists h = record {
     parts : (p : ℕ) → p < length x.points
         → (((length (list_of lists p) == corner_count (point_in x p).poly) ≡ true) × (list_all (is_new (list_of lists p)) (below (length (list_of lists p))) ≡ true))
         × (((length (point_in x p).covers == length (facets_of (point_in x p).poly)) ≡ true) × (list_all (carries x lists p) (below (length (point_in x p).covers)) ≡ true))
-    parts p low = let here = and_parts _ _ (all-below (arranged_at x lists) (length x.points) p both.1 low) in (and_parts _ _ here.0, and_parts _ _ here.1)
+    parts p low = let here = and_parts _ _ (passes-below (arranged_at x lists) (length x.points) p both.1 low) in (and_parts _ _ here.0, and_parts _ _ here.1)
 
 -- ---- rows
 

@@ -2,12 +2,12 @@
 use Rattle.std.proofs.Common.{◌≡◌, ◌≢◌, ℕ, ◌+◌, ◌≤◌, List, [], ◌∷◌, length, Some, sym, ap, subst}
 use Rattle.std.specs.Prelude.{slice_index}
 use Rattle.std.specs.List.{AllByRecursion}
+use Rattle.plain_lists.proofs.Each.{all_weaker}
 use Rattle.input_defs.specs.Content.{Node, Element, Content}
 use Rattle.triangle_defs.specs.Triangles.{triangles}
 use Rattle.triangle_reader.specs.Facts.{AreNodes, IsTriangle}
 use Rattle.triangle_reader.proofs.Facts.{of_triangles}
 use Rattle.triangle_laws.specs.TriangleMesh.{IsTriangleElement, AreNumbered, IsTriangleContent}
-use Rattle.mesh_laws.proofs.Places.{all_weaker}
 
 numbered : (i : ℕ) (nodes : List Node) → AreNodes i nodes → AreNumbered i nodes
 numbered i [] are = tt

@@ -6,6 +6,7 @@ use Rattle.std.proofs.lemmas.List.{append-nil, get_or-map, length-map}
 use Rattle.std.proofs.lemmas.List.Concat.{flat_map-append}
 use Rattle.std.proofs.lemmas.List.FromFn.{length-enumerate_from}
 use Rattle.plain_lists.specs.Lists.{below}
+use Rattle.plain_lists.proofs.Each.{all_at}
 use Rattle.mesh_defs.specs.Mesh.{Mesh, placed_cells}
 use Rattle.mesh_defs.specs.Points.{Sight, vertex_sight}
 use Rattle.mesh_defs.specs.Diagram.{Diagram, chart, cone, place_in, diagram, count_in}
@@ -16,7 +17,6 @@ use Rattle.plex_base.specs.declared.key.PointKey.{PointKey}
 use Rattle.plex_chart.specs.Chart.{point_at, no_point}
 use Rattle.plex_serial.specs.Keys.{key_at, Draws}
 use Rattle.triangle_laws.specs.TriangleMesh.{IsTriangleMesh, IsTriangleContent, triangle_diagram}
-use Rattle.mesh_laws.proofs.Places.{all_at}
 use Rattle.triangle_laws.proofs.TriangleDiagram.{chart-triangles, cones-alone, count-cells, count-vertices, count-edges, diagram-triangles}
 use Rattle.triangle_laws.proofs.TriangleContent.{triangle_mesh-is}
 use Rattle.plex_job.specs.Drawing.{drawn_point, drawn_points, drawn_head, drawn_text}

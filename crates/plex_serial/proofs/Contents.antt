@@ -4,6 +4,8 @@ use Rattle.std.specs.List.{AllByRecursion}
 use Rattle.std.proofs.lemmas.List.{length-map}
 use Rattle.mesh_defs.specs.declared.ConeEntry.{ConeEntry}
 use Rattle.plain_lists.specs.Lists.{below}
+use Rattle.plain_lists.proofs.Each.{all_from}
+use Rattle.plain_lists.proofs.Filters.{map_map_same}
 use Rattle.mesh_defs.specs.Mesh.{placed_cells}
 use Rattle.mesh_defs.specs.Points.{Sight}
 use Rattle.mesh_defs.specs.Diagram.{chart, diagram}
@@ -11,7 +13,6 @@ use Rattle.input_defs.specs.Content.{Node, Element, Content}
 use Rattle.triangle_defs.specs.Triangles.{vertices_of, vertex_of, cell_of, triangle_mesh}
 use Rattle.mesh_defs.specs.Sights.{IsEdgeSight}
 use Rattle.triangle_laws.specs.TriangleMesh.{IsTriangleContent}
-use Rattle.mesh_laws.proofs.Places.{all_from, map_map_same}
 use Rattle.triangle_laws.proofs.TriangleContent.{triangle_mesh-is, vertices-and-unused}
 use Rattle.plex_serial.specs.declared.edges.Edge.{Edge}
 use Rattle.plex_serial.specs.Assembly.{IsCellCone, flat_diagram}

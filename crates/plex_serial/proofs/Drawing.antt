@@ -6,13 +6,15 @@ use Rattle.std.proofs.lemmas.List.FromFn.{map-range_with_len_more}
 use Rattle.mesh_defs.specs.declared.ConeEntry.{ConeEntry}
 use Rattle.mesh_defs.specs.declared.Poly.TheVariants.{Vertex}
 use Rattle.plain_lists.specs.Lists.{below}
+use Rattle.plain_lists.proofs.Each.{all_weaker, all_from, all_append, all_map, all_at, all_mapped}
+use Rattle.plain_lists.proofs.Filters.{map_map_same}
+use Rattle.plain_lists.proofs.Below.{below-all}
 use Rattle.mesh_defs.specs.Tables.{dim_of}
 use Rattle.mesh_defs.specs.Mesh.{Mesh, Cell, placed_cells}
 use Rattle.mesh_defs.specs.Points.{Sight, vertex_sight, vertex_sights}
 use Rattle.mesh_defs.specs.Diagram.{firsts, chart, place_in, cone, Covering, Diagram, diagram}
 use Rattle.mesh_defs.specs.Sights.{IsEdgeSight, IsEdgeEntry}
 use Rattle.triangle_laws.specs.TriangleMesh.{IsTriangle, IsTriangleMesh, whole_sight, edge_sights, triangle_points, cell_cover, edge_cover, triangle_diagram}
-use Rattle.mesh_laws.proofs.Places.{all_weaker, all_from, all_append, all_map, all_at, map_map_same}
 use Rattle.triangle_laws.proofs.TriangleDiagram.{chart-triangles, edges-are, length-vertices, length-edges, entries-bounds, diagram-triangles}
 use Rattle.plex_base.specs.declared.key.PointKey.{PointKey}
 use Rattle.plex_chart.specs.Chart.{point_at, no_point}
@@ -22,7 +24,7 @@ use Rattle.plex_serial.specs.Corners.{AreApart, triangle_on}
 use Rattle.plex_serial.specs.Edges.{sight_of, placed, edges_among, cone_among}
 use Rattle.plex_serial.specs.Keys.{numbers, key_at, IsKeyed}
 use Rattle.plex_serial.proofs.Joins.{length-placed}
-use Rattle.plex_serial.proofs.Strata.{all_unmap, flat_points}
+use Rattle.plex_serial.proofs.Strata.{flat_points}
 
 -- ---- numbers in order
 
@@ -39,11 +41,6 @@ keys-enumerated : (n : ℕ) (cells : List Cell) → map (λ (c : ℕ × Cell). 6
 keys-enumerated n [] = refl
 keys-enumerated n (cell ∷ cells) = ap (λ l. (64 * n) ∷ l) (keys-enumerated (n + 1) cells)
 
--- numbers below n are below n
-below-all : (n m : ℕ) → n ≤ m → AllByRecursion (λ v. v < m) (below n)
-below-all zero m h = tt
-below-all (suc n) m h = all_append (λ v. v < m) (below n) (n ∷ []) (below-all n m (omega arith)) (omega arith, tt)
-
 -- one thing for each element
 map-const : {X Y : Type 0} (y : Y) (xs : List X) → map (λ x. y) xs ≡ replicate (length xs) y
 map-const y [] = refl
@@ -56,7 +53,7 @@ module _ (m : Mesh) (is : IsTriangleMesh m) (corners : List (List ℕ)) (same : 
   pub corners-apart : AllByRecursion AreApart corners
   corners-apart =
       all_weaker (λ vs. IsTriangle (length m.at) (triangle_on vs)) AreApart (λ vs t. record { first_second = t.first_second; second_third = t.second_third; third_first = t.third_first }) corners
-      (all_unmap (IsTriangle (length m.at)) triangle_on corners (subst (AllByRecursion (IsTriangle (length m.at))) (sym same) is.triangles))
+      (all_mapped (IsTriangle (length m.at)) triangle_on corners (subst (AllByRecursion (IsTriangle (length m.at))) (sym same) is.triangles))
 
   -- as many as cells
   pub length-corners : length corners ≡ length m.cells
@@ -168,7 +165,7 @@ module _ (m : Mesh) (is : IsTriangleMesh m) where
       all_append IsPlace (map whole_sight (placed_cells m) ++ vertex_sights m) (firsts (edge_sights m))
       (all_append IsPlace (map whole_sight (placed_cells m)) (vertex_sights m)
       (all_map IsPlace whole_sight (placed_cells m) (all_from (λ c. IsPlace (whole_sight c)) (λ c e. absurd (omega (arith, e))) (placed_cells m)))
-      (all_map IsPlace vertex_sight (below (length m.at)) (all_weaker (λ v. v < length m.at) (λ v. IsPlace (vertex_sight v)) (λ v h e. h) (below (length m.at)) (below-all (length m.at) (length m.at) (omega arith)))))
+      (all_map IsPlace vertex_sight (below (length m.at)) (all_weaker (λ v. v < length m.at) (λ v. IsPlace (vertex_sight v)) (λ v h e. h) (below (length m.at)) (below-all (length m.at)))))
       (all_weaker (IsEdgeSight (length m.at)) IsPlace (λ s h e. absurd (omega (arith, ap dim_of h.poly, e))) (firsts (edge_sights m)) (edges-are m is))
 
   -- a mesh that is drawn is keyed

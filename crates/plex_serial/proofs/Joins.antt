@@ -7,12 +7,13 @@ use Rattle.std.proofs.lemmas.List.{take_more, get_or-map, length-map, map_push}
 use Rattle.std.proofs.lemmas.List.Concat.{flat_map-append}
 use Rattle.std.proofs.lemmas.List.Folds.{list_any-append}
 use Rattle.std.proofs.lemmas.List.FromFn.{length-enumerate_from, get_or-enumerate_from}
+use Rattle.plain_lists.proofs.Each.{all_weaker, all_in_flat_map}
+use Rattle.plain_lists.proofs.Filters.{map_same, length-flat_map_three}
 use Rattle.mesh_defs.specs.Mesh.{Cell}
 use Rattle.mesh_defs.specs.Points.{Sight, point_of, shows}
 use Rattle.mesh_defs.specs.Diagram.{firsts}
 use Rattle.mesh_defs.specs.Sights.{edge_sight, entry_among}
 use Rattle.triangle_laws.specs.TriangleMesh.{edge_sights_of}
-use Rattle.mesh_laws.proofs.Places.{all_weaker, all_in_flat_map, map_same, length-flat_map_three}
 use Rattle.mesh_laws.proofs.Firsts.{shows-own, firsts-push, firsts-length, shown_itself}
 use Rattle.mesh_laws.proofs.Entries.{entry_among-more, entry_among-settled}
 use Rattle.plex_serial.specs.Corners.{triangle_on}

@@ -5,10 +5,11 @@ use Rattle.std.proofs.lemmas.Bool.{cond-true, cond-false}
 use Rattle.std.proofs.lemmas.List.{length-take, length-map, map-append}
 use Rattle.std.proofs.lemmas.List.Elements.{filter_more}
 use Rattle.std.proofs.lemmas.List.Sums.{length-filter}
+use Rattle.plain_lists.proofs.Each.{all_weaker}
+use Rattle.plain_lists.proofs.Filters.{map_same, count-both}
 use Rattle.input_defs.specs.Content.{Node, Element, Content}
 use Rattle.triangle_defs.specs.Triangles.{is_used, vertex_of}
 use Rattle.triangle_laws.specs.TriangleMesh.{IsTriangleContent, IsInUse}
-use Rattle.mesh_laws.proofs.Places.{all_weaker, map_same, count-both}
 use Rattle.triangle_laws.proofs.TriangleContent.{elements-in-use, vertex_of-counts}
 use Rattle.plex_serial.specs.Corners.{positions_at, AreCounted}
 

@@ -7,9 +7,10 @@ use Rattle.std.proofs.lemmas.List.{map_push, get_or-map, length-map}
 use Rattle.std.proofs.lemmas.List.Folds.{find_at}
 use Rattle.std.proofs.lemmas.Option.{slice_get-get_or}
 use Rattle.plain_lists.specs.Lists.{same_list, sorted}
+use Rattle.plain_lists.proofs.Finding.{any_map, position-none, position-within, position_map}
+use Rattle.plain_lists.proofs.Each.{all_at}
 use Rattle.mesh_defs.specs.Points.{point_of, shows}
 use Rattle.mesh_defs.specs.Sights.{IsEdgeSight, edge_sight, entry_among}
-use Rattle.mesh_laws.proofs.Places.{any_map, all_at, position-none, position-within}
 use Rattle.mesh_laws.proofs.Entries.{entry_among-new, entry_among-found}
 use Rattle.plex_serial.specs.declared.edges.Edge.{Edge}
 use Rattle.plex_serial.specs.Edges.{sight_of, with_sight, AreInPlaces}
@@ -17,11 +18,6 @@ use Rattle.plex_serial.specs.Edges.{sight_of, with_sight, AreInPlaces}
 -- the ends of an edge, the smaller one first
 abbrev place_of : Edge → List ℕ
 place_of e = sorted e.ends
-
--- the first place in an image
-position-map : {X Y : Type 0} (p : Y → Bool) (f : X → Y) (xs : List X) → position_or_len p (map f xs) ≡ position_or_len (λ x. p (f x)) xs
-position-map p f [] = refl
-position-map p f (x ∷ xs) = ap (λ n. cond (not (p (f x))) (1 + n) 0) (position-map p f xs)
 
 module _ (places : List (List ℕ)) (edges : List Edge) (k a b : ℕ) (h : AreInPlaces places edges) where
   -- an edge is found by its place where it is shown
@@ -33,8 +29,8 @@ module _ (places : List (List ℕ)) (edges : List Edge) (k a b : ℕ) (h : AreIn
   -- it stands at its place
   pub places-position : position_or_len (same_list (sorted (a ∷ b ∷ []))) places ≡ position_or_len (shows (point_of (edge_sight k a b))) (map sight_of edges)
   places-position =
-      ap (position_or_len (same_list (sorted (a ∷ b ∷ [])))) h.found ∙ position-map (same_list (sorted (a ∷ b ∷ []))) place_of edges
-      ∙ sym (position-map (shows (point_of (edge_sight k a b))) sight_of edges)
+      ap (position_or_len (same_list (sorted (a ∷ b ∷ [])))) h.found ∙ position_map (same_list (sorted (a ∷ b ∷ []))) place_of edges
+      ∙ sym (position_map (shows (point_of (edge_sight k a b))) sight_of edges)
 
   -- there are as many places as edges
   pub places-length : length places ≡ length edges

@@ -4,13 +4,13 @@ use Rattle.std.specs.Prelude.{slice_index}
 use Rattle.std.specs.List.{AllZip, AllByRecursion, Contains}
 use Rattle.std.proofs.lemmas.List.{length-map, length-replicate, get_or-map, get_or-replicate, get_or_append_left, get_or-append-add, get_or-append_right}
 use Rattle.std.proofs.lemmas.List.Elements.{All-from_recursion}
+use Rattle.plain_lists.proofs.Each.{all_weaker, all_append, all_map, all_at, all_mapped}
 use Rattle.mesh_defs.specs.declared.ConeEntry.{ConeEntry}
 use Rattle.mesh_defs.specs.declared.Poly.TheVariants.{Vertex, Segment, Triangle}
 use Rattle.mesh_defs.specs.Tables.{Facet, facets_of}
 use Rattle.mesh_defs.specs.Orientation.{orientations, rotations, reflections}
 use Rattle.mesh_defs.specs.Diagram.{Covering, Diagram}
 use Rattle.mesh_defs.specs.Sights.{IsEdgeEntry, IsEdgeSight}
-use Rattle.mesh_laws.proofs.Places.{all_weaker, all_append, all_map, all_at}
 use Rattle.plex_chart.specs.Chart.{point_at, no_point, IsInStratum, FitsFacet, IsWhole}
 use Rattle.plex_serial.specs.declared.edges.Edge.{Edge}
 use Rattle.plex_serial.specs.Edges.{sight_of}
@@ -37,14 +37,9 @@ segment-turn o (inr e) = (0, omega arith, sym e)
 
 -- ---- all points
 
--- what all images have, read at what they are images of
-pub all_unmap : {X Y : Type 0} (P : Y → Type 0) (f : X → Y) (xs : List X) → AllByRecursion P (map f xs) → AllByRecursion (λ x. P (f x)) xs
-all_unmap P f [] h = tt
-all_unmap P f (x ∷ xs) h = (h.0, all_unmap P f xs h.1)
-
 -- each edge has two ends that differ
 pub edge-is : (n : ℕ) (edges : List Edge) (i : ℕ) (d : Edge) → AllByRecursion (IsEdgeSight n) (map sight_of edges) → i < length edges → IsEdgeSight n (sight_of (get_or edges i d))
-edge-is n edges i d h within = all_at (λ e. IsEdgeSight n (sight_of e)) edges i d (all_unmap (IsEdgeSight n) sight_of edges h) within
+edge-is n edges i d h within = all_at (λ e. IsEdgeSight n (sight_of e)) edges i d (all_mapped (IsEdgeSight n) sight_of edges h) within
 
 -- the points of a diagram of triangles
 abbrev pub flat_points : List (List ConeEntry) → ℕ → List Edge → List Covering
@@ -117,5 +112,5 @@ module _ (cones : List (List ConeEntry)) (vertices : ℕ) (edges : List Edge) wh
         (all_append Fits (map cell_point cones) (replicate vertices bare_point)
         (all_map Fits cell_point cones (all_weaker (IsCellCone (length cones + vertices) (length edges)) (λ cone. Fits (cell_point cone)) cell-fits cones ones))
         (bare-fits vertices))
-        (all_map Fits (edge_point (length cones)) edges (all_weaker (λ e. IsEdgeSight vertices (sight_of e)) (λ e. Fits (edge_point (length cones) e)) edge-fits edges (all_unmap (IsEdgeSight vertices) sight_of edges ends))));
+        (all_map Fits (edge_point (length cones)) edges (all_weaker (λ e. IsEdgeSight vertices (sight_of e)) (λ e. Fits (edge_point (length cones) e)) edge-fits edges (all_mapped (IsEdgeSight vertices) sight_of edges ends))));
   }

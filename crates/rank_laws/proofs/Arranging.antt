@@ -6,17 +6,17 @@ use Rattle.std.proofs.lemmas.List.{length-map, get_or-map}
 use Rattle.mesh_defs.specs.declared.Poly.TheVariants.{Vertex}
 use Rattle.mesh_defs.specs.declared.ConeEntry.{ConeEntry}
 use Rattle.plain_lists.specs.Lists.{picked}
+use Rattle.plain_lists.proofs.Each.{all_at}
+use Rattle.plain_lists.proofs.Finding.{position-within, found-any}
 use Rattle.mesh_defs.specs.Tables.{Facet, corner_count, facets_of, facet_at}
 use Rattle.mesh_defs.specs.Orientation.{act}
 use Rattle.mesh_defs.specs.Mesh.{Mesh, placed_cells}
 use Rattle.mesh_defs.specs.Points.{Sight, point_on, shows, vertex_sight}
 use Rattle.mesh_defs.specs.Diagram.{count_in, strata, chart, place_in, seen_under, entry, cone, IsAccepted, Covering, Diagram, diagram}
-use Rattle.mesh_laws.proofs.Places.{all_at, position-within}
 use Rattle.mesh_laws.proofs.Keys.{seen_under-carries}
 use Rattle.mesh_laws.proofs.Containing.{chart-all}
 use Rattle.plex_defs.specs.Closure.{list_of, IsArranged, arrangements}
 use Rattle.rank_laws.specs.Conditions.{IsSoundMesh}
-use Rattle.rank_laws.proofs.Strata.{found-any}
 use Rattle.rank_laws.proofs.Found.{IsSeen, at-found}
 use Rattle.rank_laws.proofs.Facets.{Covers, strata-cover}
 use Rattle.rank_laws.proofs.Shapes.{HasShape, strata-shape}

@@ -8,22 +8,23 @@ use Rattle.std.proofs.lemmas.List.Folds.{list_any-append}
 use Rattle.mesh_defs.specs.declared.Poly.{Poly}
 use Rattle.mesh_defs.specs.declared.Poly.TheVariants.{Vertex, Segment}
 use Rattle.plain_lists.specs.Lists.{below, same_list, sorted, picked, differ_as_sets}
+use Rattle.plain_lists.proofs.Filters.{filter_passing}
+use Rattle.plain_lists.proofs.Finding.{none_passes, any_weaker, any_map, among, any_filter, stands, found-any}
+use Rattle.plain_lists.proofs.Each.{all_weaker, all_both, all_from, all_map, all_filter, all_enumerated, all_in_flat_map, all_mapped, each_passes}
+use Rattle.plain_lists.proofs.Sorted.{same_list-self}
 use Rattle.mesh_defs.specs.Tables.{Facet, dim_of, corner_count, facets_of, edges_of}
 use Rattle.mesh_defs.specs.Orientation.{relative}
 use Rattle.mesh_defs.specs.Mesh.{Mesh, Cell, placed_cells}
 use Rattle.mesh_defs.specs.Points.{Point, Sight, point_on, point_of, shows, sights_of, vertex_sight, first_sight, arrangement, contains}
 use Rattle.mesh_defs.specs.Diagram.{strata, chart, seen_under, IsAccepted}
-use Rattle.mesh_laws.proofs.Places.{filter_passing, none_passes, any_weaker, any_map, all_weaker, all_both, all_from, all_map, all_filter, all_enumerated, all_in_flat_map}
-use Rattle.mesh_laws.proofs.Firsts.{same_list-self, shows-true}
+use Rattle.mesh_laws.proofs.Firsts.{shows-true}
 use Rattle.mesh_laws.proofs.Turns.{sorted-min_max}
 use Rattle.mesh_laws.proofs.Containing.{sights_of-any_place}
 use Rattle.rank_defs.specs.Ranks.{held_cells, held}
 use Rattle.rank_laws.specs.Conditions.{IsSoundCell, IsSoundMesh, CellsDiffer, in_some}
-use Rattle.rank_laws.proofs.Lists.{among, any_filter, stands}
-use Rattle.rank_laws.proofs.Strata.{found-any, strata-first}
-use Rattle.rank_laws.proofs.Inverting.{of-images}
+use Rattle.rank_laws.proofs.Strata.{strata-first}
 use Rattle.rank_laws.proofs.Owning.{is_held}
-use Rattle.rank_laws.proofs.Shapes.{HasShape, sights_of-shape, strata-shape, all-of_strata, all-of_cells, is_face_of, all-pass, facets-are_faces}
+use Rattle.rank_laws.proofs.Shapes.{HasShape, sights_of-shape, strata-shape, all-of_strata, all-of_cells, is_face_of, facets-are_faces}
 use Rattle.rank_laws.proofs.Found.{IsSeen, two-entries, poly-zero, poly-told, length-sorted}
 use Rattle.rank_laws.proofs.Facets.{untwisted, some-answer, Covers, strata-cover}
 use Rattle.rank_laws.proofs.TurnedEdges.{polygon-facets, turned-edges}
@@ -76,7 +77,7 @@ module _ (m : Mesh) (sound : IsSoundMesh m) (accepted : IsAccepted m) (differ : 
   sights-whole : (c : ℕ) (cell : Cell) → IsSoundCell m cell → list_any (same_list cell.vertices) (map (λ (d : Cell). d.vertices) m.cells) ≡ true → AllByRecursion MaybeWhole (sights_of (c, cell))
   sights-whole c cell good there = all-of_sights MaybeWhole c cell (λ e. record { cell = cell; member = there; poly = refl; vertices = refl })
       (λ solid k. all_weaker (λ f. is_face_of cell.poly f ≡ true) (λ (f : Facet). (k : ℕ) → MaybeWhole (record { key = k; poly = f.poly; arrangement = picked cell.vertices f.corners }))
-      (λ f h k e. absurd (omega (arith, eqb-true (dim_of f.poly) 2 (and_parts (length f.corners == corner_count f.poly) (dim_of f.poly == 2) (and_parts _ _ h).0).1, good.dim))) (facets_of cell.poly) (all-pass (is_face_of cell.poly) (facets_of cell.poly) (facets-are_faces cell.poly solid)))
+      (λ f h k e. absurd (omega (arith, eqb-true (dim_of f.poly) 2 (and_parts (length f.corners == corner_count f.poly) (dim_of f.poly == 2) (and_parts _ _ h).0).1, good.dim))) (facets_of cell.poly) (each_passes (is_face_of cell.poly) (facets_of cell.poly) (facets-are_faces cell.poly solid)))
       (all_from _ (λ e k x. absurd (lower 1 refl x)) (edges_of cell.poly))
 
   -- a cell of the mesh, with its place
@@ -121,7 +122,7 @@ module _ (m : Mesh) (sound : IsSoundMesh m) (accepted : IsAccepted m) (differ : 
     sights-kind : AllByRecursion (Kind m cell) (sights_of (c, cell))
     sights-kind = all-of_kinds (sights_of (c, cell)) placed.some (all-of_sights Rough c cell (inl (refl, refl))
         (λ solid k. all_weaker (λ f. is_face_of cell.poly f ≡ true) (λ (f : Facet). (k : ℕ) → Rough (record { key = k; poly = f.poly; arrangement = picked cell.vertices f.corners }))
-        (λ f h k. inr (inl (eqb-true (dim_of f.poly) 2 (and_parts (length f.corners == corner_count f.poly) (dim_of f.poly == 2) (and_parts _ _ h).0).1, sym placed.good.dim ∙ solid))) (facets_of cell.poly) (all-pass (is_face_of cell.poly) (facets_of cell.poly) (facets-are_faces cell.poly solid)))
+        (λ f h k. inr (inl (eqb-true (dim_of f.poly) 2 (and_parts (length f.corners == corner_count f.poly) (dim_of f.poly == 2) (and_parts _ _ h).0).1, sym placed.good.dim ∙ solid))) (facets_of cell.poly) (each_passes (is_face_of cell.poly) (facets_of cell.poly) (facets-are_faces cell.poly solid)))
         (all_from _ (λ e k. inr (inr refl)) (edges_of cell.poly)))
       where
         Rough : Sight → Type 0
@@ -180,7 +181,7 @@ module _ (m : Mesh) (sound : IsSoundMesh m) (accepted : IsAccepted m) (differ : 
         as-face : dim_of u.poly ≡ 2 → (o : ℤ) → seen_under m u.poly u.arrangement ≡ Some o → Kept s
         as-face flat o e =
             let turned : relative u.poly s.arrangement u.arrangement ≡ Some o = sym (ap (option_and_then (λ own. relative u.poly own u.arrangement)) (ap (arrangement m) (sym (shows-true (point_of s) u shown)) ∙ known.arranged)) ∙ e in
-            let sides : AllByRecursion (λ x. Edge (sorted (picked u.arrangement x))) (edges_of u.poly) = of-images (λ (f : Facet). contains cell (point_on f.poly (picked u.arrangement f.corners)) ≡ true) (λ x. record { poly = Segment; corners = x }) (edges_of u.poly) (subst (AllByRecursion (λ (f : Facet). contains cell (point_on f.poly (picked u.arrangement f.corners)) ≡ true)) (polygon-facets u.poly flat) keeps) in
+            let sides : AllByRecursion (λ x. Edge (sorted (picked u.arrangement x))) (edges_of u.poly) = all_mapped (λ (f : Facet). contains cell (point_on f.poly (picked u.arrangement f.corners)) ≡ true) (λ x. record { poly = Segment; corners = x }) (edges_of u.poly) (subst (AllByRecursion (λ (f : Facet). contains cell (point_on f.poly (picked u.arrangement f.corners)) ≡ true)) (polygon-facets u.poly flat) keeps) in
             subst (λ p. KeptAs p s.arrangement) (sym poly)
             (subst (AllByRecursion (λ (f : Facet). contains cell (point_on f.poly (picked s.arrangement f.corners)) ≡ true)) (sym (polygon-facets u.poly flat))
             (all_map (λ (f : Facet). contains cell (point_on f.poly (picked s.arrangement f.corners)) ≡ true) (λ x. record { poly = Segment; corners = x }) (edges_of u.poly) (turned-edges Edge u.poly s.arrangement u.arrangement o flat shape.corners turned sides)))

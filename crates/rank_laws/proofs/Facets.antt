@@ -9,22 +9,21 @@ use Rattle.std.proofs.lemmas.List.Folds.{list_any-append}
 use Rattle.mesh_defs.specs.declared.Poly.{Poly}
 use Rattle.mesh_defs.specs.declared.Poly.TheVariants.{Vertex, Segment}
 use Rattle.plain_lists.specs.Lists.{below, same_list, sorted, picked}
+use Rattle.plain_lists.proofs.Finding.{each_fails, stands, find-cases, find-has, found-any}
+use Rattle.plain_lists.proofs.Each.{all_append_first, all_in_flat_map, all_weaker, all_both, all_from, all_append, all_map, all_enumerated, all_at, all_mapped, each_passes}
+use Rattle.plain_lists.proofs.Below.{picked-picked}
 use Rattle.mesh_defs.specs.Tables.{Facet, dim_of, corner_count, facets_of, edges_of}
 use Rattle.mesh_defs.specs.Orientation.{relative}
 use Rattle.mesh_defs.specs.Mesh.{Mesh, Cell, placed_cells}
 use Rattle.mesh_defs.specs.Points.{Point, Sight, point_on, point_of, shows, sights_of, sights, vertex_sight, vertex_sights, arrangement}
 use Rattle.mesh_defs.specs.Diagram.{stratum, strata, seen_under, twist_key, IsAccepted}
-use Rattle.mesh_laws.proofs.Places.{each_fails, all_append_first, all_in_flat_map, all_weaker, all_both, all_from, all_append, all_map, all_enumerated, all_at}
 use Rattle.mesh_laws.proofs.Firsts.{shown_itself}
 use Rattle.mesh_laws.proofs.Turns.{relative-vertex, sorted-one}
 use Rattle.mesh_laws.proofs.Entries.{relative-edge}
 use Rattle.mesh_laws.proofs.Vertices.{vertex_found}
 use Rattle.rank_laws.specs.Conditions.{IsFlatOrSolid, IsSoundCell, IsSoundMesh}
-use Rattle.rank_laws.proofs.Lists.{stands, find-cases, find-has}
-use Rattle.rank_laws.proofs.Inverting.{of-images}
-use Rattle.rank_laws.proofs.Strata.{found-any}
-use Rattle.rank_laws.proofs.Found.{IsSeen, shown-in_strata, shown-in_stratum, found-first, one-entry, two-entries, poly-zero, poly-one, poly-told, length-sorted, edge-there, picked-picked}
-use Rattle.rank_laws.proofs.Shapes.{HasShape, are_corners, is_pair, is_edge_of, is_side_of, is_face_of, all-pass, edges-are_pairs, sides-are_edges, facets-are_faces, picked-differ, picked-shape, strata-shape, all-of_strata, all-of_cells}
+use Rattle.rank_laws.proofs.Found.{IsSeen, shown-in_strata, shown-in_stratum, found-first, one-entry, two-entries, poly-zero, poly-one, poly-told, length-sorted, edge-there}
+use Rattle.rank_laws.proofs.Shapes.{HasShape, are_corners, is_pair, is_edge_of, is_side_of, is_face_of, edges-are_pairs, sides-are_edges, facets-are_faces, picked-differ, picked-shape, strata-shape, all-of_strata, all-of_cells}
 
 -- ---- facets that are seen
 
@@ -176,7 +175,7 @@ module _ (m : Mesh) (sound : IsSoundMesh m) where
           pair = and_parts (length e == 2) (are_corners (corner_count cell.poly) e) h
 
           corners : AllByRecursion (λ i. nat_lt i (corner_count cell.poly) ≡ true) e
-          corners = all-pass (λ i. nat_lt i (corner_count cell.poly)) e (and_parts (list_all (λ i. nat_lt i (corner_count cell.poly)) e) _ pair.1).0
+          corners = each_passes (λ i. nat_lt i (corner_count cell.poly)) e (and_parts (list_all (λ i. nat_lt i (corner_count cell.poly)) e) _ pair.1).0
 
           end : (i : ℕ) → i < 2 → slice_index (picked cell.vertices e) i < length m.at
           end i low = let long : i < length e = omega (arith, eqb-true (length e) 2 pair.0) in
@@ -186,19 +185,19 @@ module _ (m : Mesh) (sound : IsSoundMesh m) where
       -- the sides of a face of the cell are seen
       face-covers : (k : ℕ) (f : Facet) → is_face_of cell.poly f ≡ true → Covers (record { key = k; poly = f.poly; arrangement = picked cell.vertices f.corners })
       face-covers k f h = all_weaker (λ (e : Facet). (is_pair (length f.corners) e.corners && is_side_of cell.poly (record { poly = e.poly; corners = picked f.corners e.corners })) ≡ true) (λ (e : Facet). IsSeen m e.poly (picked (picked cell.vertices f.corners) e.corners)) side (facets_of f.poly)
-          (all-pass (λ (e : Facet). is_pair (length f.corners) e.corners && is_side_of cell.poly (record { poly = e.poly; corners = picked f.corners e.corners })) (facets_of f.poly) (and_parts (are_corners (corner_count cell.poly) f.corners) _ (and_parts _ _ h).1).1)
+          (each_passes (λ (e : Facet). is_pair (length f.corners) e.corners && is_side_of cell.poly (record { poly = e.poly; corners = picked f.corners e.corners })) (facets_of f.poly) (and_parts (are_corners (corner_count cell.poly) f.corners) _ (and_parts _ _ h).1).1)
         where
           side : (e : Facet) → (is_pair (length f.corners) e.corners && is_side_of cell.poly (record { poly = e.poly; corners = picked f.corners e.corners })) ≡ true → IsSeen m e.poly (picked (picked cell.vertices f.corners) e.corners)
           side e x =
               let both = and_parts (is_pair (length f.corners) e.corners) (is_side_of cell.poly (record { poly = e.poly; corners = picked f.corners e.corners })) x in
               let pair = and_parts (length e.corners == 2) (are_corners (length f.corners) e.corners) both.0 in
               let within = and_parts (list_all (λ c. nat_lt c (length f.corners)) e.corners) _ pair.1 in
-              subst (IsSeen m e.poly) (sym (picked-picked cell.vertices f.corners e.corners (all_weaker (λ k. nat_lt k (length f.corners) ≡ true) (λ k. k < length f.corners) (λ k y. ltb-true k (length f.corners) y) e.corners (all-pass (λ k. nat_lt k (length f.corners)) e.corners within.0))))
+              subst (IsSeen m e.poly) (sym (picked-picked cell.vertices f.corners e.corners (all_weaker (λ k. nat_lt k (length f.corners) ≡ true) (λ k. k < length f.corners) (λ k y. ltb-true k (length f.corners) y) e.corners (each_passes (λ k. nat_lt k (length f.corners)) e.corners within.0))))
               (side-seen e.poly (picked f.corners e.corners) both.1)
 
       -- the sides of a polygon are seen
       polygon-covers : dim_of cell.poly ≡ 2 → AllByRecursion (λ (f : Facet). IsSeen m f.poly (picked cell.vertices f.corners)) (facets_of cell.poly)
-      polygon-covers flat = all_weaker (λ f. is_side_of cell.poly f ≡ true) (λ (f : Facet). IsSeen m f.poly (picked cell.vertices f.corners)) (λ f h. side-seen f.poly f.corners h) (facets_of cell.poly) (all-pass (is_side_of cell.poly) (facets_of cell.poly) (sides-are_edges cell.poly flat))
+      polygon-covers flat = all_weaker (λ f. is_side_of cell.poly f ≡ true) (λ (f : Facet). IsSeen m f.poly (picked cell.vertices f.corners)) (λ f h. side-seen f.poly f.corners h) (facets_of cell.poly) (each_passes (is_side_of cell.poly) (facets_of cell.poly) (sides-are_edges cell.poly flat))
 
       -- what is known of each sight of the cell: the cells see its point, and not under no orientation if it is a face
       abbrev IsLooked : Sight → Type 0
@@ -208,7 +207,7 @@ module _ (m : Mesh) (sound : IsSoundMesh m) where
       solid-covers : dim_of cell.poly ≡ 3 → AllByRecursion IsLooked (sights_of (c, cell)) → AllByRecursion (λ (f : Facet). IsSeen m f.poly (picked cell.vertices f.corners)) (facets_of cell.poly)
       unfolding sights_of
       solid-covers solid looked = all_both (λ f. is_face_of cell.poly f ≡ true) (λ (f : Facet). (k : ℕ) → IsLooked (face (k, f))) (λ (f : Facet). IsSeen m f.poly (picked cell.vertices f.corners)) one (facets_of cell.poly)
-          (all-pass (is_face_of cell.poly) (facets_of cell.poly) (facets-are_faces cell.poly solid)) faces-looked
+          (each_passes (is_face_of cell.poly) (facets_of cell.poly) (facets-are_faces cell.poly solid)) faces-looked
         where
           face : ℕ × Facet → Sight
           face f = record { key = 64 * c + 1 + f.0; poly = f.1.poly; arrangement = picked cell.vertices f.1.corners }
@@ -222,7 +221,7 @@ module _ (m : Mesh) (sound : IsSoundMesh m) where
           any-key n (f ∷ fs) h = ((λ k. h.0), any-key (n + 1) fs h.1)
 
           faces-looked : AllByRecursion (λ (f : Facet). (k : ℕ) → IsLooked (face (k, f))) (facets_of cell.poly)
-          faces-looked = any-key 0 (facets_of cell.poly) (of-images IsLooked face (enumerate_from 0 (facets_of cell.poly))
+          faces-looked = any-key 0 (facets_of cell.poly) (all_mapped IsLooked face (enumerate_from 0 (facets_of cell.poly))
               (subst (AllByRecursion IsLooked) (cond-true (dim_of cell.poly == 3) (map face (enumerate_from 0 (facets_of cell.poly))) [] (eq-eqb (dim_of cell.poly) 3 solid)) (all_append_first IsLooked (if dim_of cell.poly == 3 then map face (enumerate_from 0 (facets_of cell.poly)) else []) edges looked.1)))
 
           one : (f : Facet) → is_face_of cell.poly f ≡ true → ((k : ℕ) → IsLooked (face (k, f))) → IsSeen m f.poly (picked cell.vertices f.corners)
@@ -241,7 +240,7 @@ module _ (m : Mesh) (sound : IsSoundMesh m) where
         whole sound.dim,
         all_append Covers (faces (dim_of cell.poly == 3)) (map edge (enumerate_from 0 (edges_of cell.poly))) (faces-cover (dim_of cell.poly == 3) refl)
             (all_map Covers edge (enumerate_from 0 (edges_of cell.poly))
-            (all_weaker (λ (e : ℕ × List ℕ). is_pair (corner_count cell.poly) e.1 ≡ true) (λ e. Covers (edge e)) (λ e h. edge-covers (64 * c + 8 + e.0) e.1 h) (enumerate_from 0 (edges_of cell.poly)) (all_enumerated (λ e. is_pair (corner_count cell.poly) e ≡ true) 0 (edges_of cell.poly) (all-pass (is_pair (corner_count cell.poly)) (edges_of cell.poly) (edges-are_pairs cell.poly))))),
+            (all_weaker (λ (e : ℕ × List ℕ). is_pair (corner_count cell.poly) e.1 ≡ true) (λ e. Covers (edge e)) (λ e h. edge-covers (64 * c + 8 + e.0) e.1 h) (enumerate_from 0 (edges_of cell.poly)) (all_enumerated (λ e. is_pair (corner_count cell.poly) e ≡ true) 0 (edges_of cell.poly) (each_passes (is_pair (corner_count cell.poly)) (edges_of cell.poly) (edges-are_pairs cell.poly))))),
       )
         where
           edge : ℕ × List ℕ → Sight
@@ -256,7 +255,7 @@ module _ (m : Mesh) (sound : IsSoundMesh m) where
           faces-cover : (b : Bool) → (dim_of cell.poly == 3) ≡ b → AllByRecursion Covers (faces b)
           faces-cover false e = tt
           faces-cover true e = all_map Covers face (enumerate_from 0 (facets_of cell.poly))
-              (all_weaker (λ (f : ℕ × Facet). is_face_of cell.poly f.1 ≡ true) (λ f. Covers (face f)) (λ f h. face-covers (64 * c + 1 + f.0) f.1 h) (enumerate_from 0 (facets_of cell.poly)) (all_enumerated (λ f. is_face_of cell.poly f ≡ true) 0 (facets_of cell.poly) (all-pass (is_face_of cell.poly) (facets_of cell.poly) (facets-are_faces cell.poly (eqb-true (dim_of cell.poly) 3 e)))))
+              (all_weaker (λ (f : ℕ × Facet). is_face_of cell.poly f.1 ≡ true) (λ f. Covers (face f)) (λ f h. face-covers (64 * c + 1 + f.0) f.1 h) (enumerate_from 0 (facets_of cell.poly)) (all_enumerated (λ f. is_face_of cell.poly f ≡ true) 0 (facets_of cell.poly) (each_passes (is_face_of cell.poly) (facets_of cell.poly) (facets-are_faces cell.poly (eqb-true (dim_of cell.poly) 3 e)))))
 
           whole : IsFlatOrSolid m → AllByRecursion (λ (f : Facet). IsSeen m f.poly (picked cell.vertices f.corners)) (facets_of cell.poly)
           whole (inl flat) = polygon-covers (good.dim ∙ flat)

@@ -3,11 +3,12 @@ use Rattle.std.proofs.Common.{◌≡◌, ℕ, zero, suc, ◌+◌, Bool, true, fa
 use Rattle.std.specs.Prelude.{find, option_map, option_and_then, filter_map}
 use Rattle.std.specs.List.{list_any, AllByRecursion, enumerate_from, cons_option}
 use Rattle.std.proofs.lemmas.Bool.{eqb-true, or_parts, cond-true, cond-false}
-use Rattle.mesh_laws.proofs.Places.{none_passes, all_weaker, all_from, map_map_same}
+use Rattle.plain_lists.proofs.Finding.{none_passes, find-none}
+use Rattle.plain_lists.proofs.Each.{all_weaker, all_from}
+use Rattle.plain_lists.proofs.Filters.{map_map_same}
 use Rattle.mesh_laws.proofs.Containing.{eqb-sym}
 use Rattle.sf_defs.specs.declared.Leaf.{Leaf}
 use Rattle.sf_defs.specs.Forest.{Forest, leaf, root_at, leaves_on, root_of, ForestFlaw, or_else, first_some, has_root, flaw_on, flaw, IsForest, through, compose}
-use Rattle.rank_laws.proofs.Lists.{find-none}
 
 -- it has this local index
 abbrev pub is_local : ℕ → Leaf → Bool

@@ -9,14 +9,14 @@ use Rattle.std.proofs.lemmas.List.Folds.{list_any-append}
 use Rattle.mesh_defs.specs.declared.Poly.{Poly}
 use Rattle.mesh_defs.specs.declared.Poly.TheVariants.{Vertex, Segment, Triangle, Quad, Tet, Hex}
 use Rattle.plain_lists.specs.Lists.{same_list, inserted, sorted, picked}
+use Rattle.plain_lists.proofs.Finding.{any_weaker, any_map, any_enumerated, find-passes, any_filter, find-cases, find-has}
+use Rattle.plain_lists.proofs.Sorted.{same_list-self}
 use Rattle.mesh_defs.specs.Tables.{Facet, dim_of, corner_count, facets_of, edges_of}
 use Rattle.mesh_defs.specs.Mesh.{Mesh, Cell, placed_cells}
 use Rattle.mesh_defs.specs.Points.{Point, Sight, same_point, point_on, point_of, shows, sights_of, sights, vertex_sights, first_sight, arrangement}
 use Rattle.mesh_defs.specs.Diagram.{firsts, stratum, strata, seen_under}
-use Rattle.mesh_laws.proofs.Places.{any_weaker, any_map, any_enumerated}
-use Rattle.mesh_laws.proofs.Firsts.{same_list-self, shows-true, list_any-firsts}
-use Rattle.mesh_laws.proofs.Turns.{find-passes, sorted-min_max}
-use Rattle.rank_laws.proofs.Lists.{any_filter, find-cases, find-has}
+use Rattle.mesh_laws.proofs.Firsts.{shows-true, list_any-firsts}
+use Rattle.mesh_laws.proofs.Turns.{sorted-min_max}
 use Rattle.rank_laws.proofs.Strata.{strata-first}
 use Rattle.rank_laws.proofs.Shapes.{is_edge_of}
 
@@ -164,8 +164,3 @@ edge-there c cell i j x = or_right (same_point q (point_on cell.poly cell.vertic
     one : (f : List ℕ) → (same_list f (i ∷ j ∷ []) || same_list f (j ∷ i ∷ [])) ≡ true → same_point q (point_on Segment (picked cell.vertices f)) ≡ true
     one f h = shows-list Segment (picked cell.vertices (i ∷ j ∷ [])) (picked cell.vertices f) 0
         (⊎_elim (λ e. ap (λ l. sorted (picked cell.vertices l)) (sym (same_text f (i ∷ j ∷ []) (sym e)))) (λ e. sorted-turned (slice_index cell.vertices i) (slice_index cell.vertices j) ∙ ap (λ l. sorted (picked cell.vertices l)) (sym (same_text f (j ∷ i ∷ []) (sym e)))) (or_cases (same_list f (i ∷ j ∷ [])) (same_list f (j ∷ i ∷ [])) h))
-
--- chosen entries of chosen entries
-pub picked-picked : (vs cs es : List ℕ) → AllByRecursion (λ k. k < length cs) es → picked (picked vs cs) es ≡ picked vs (picked cs es)
-picked-picked vs cs [] h = refl
-picked-picked vs cs (k ∷ es) h = ap₂ (λ x l. x ∷ l) (get_or-map (λ i. get_or vs i 0) cs k 0 0 h.0) (picked-picked vs cs es h.1)

@@ -6,12 +6,15 @@ use Rattle.std.proofs.lemmas.Bool.{eq-eqb, eqb-true, ne_eqb, ltb-true, and_parts
 use Rattle.std.proofs.lemmas.List.Folds.{list_any-append}
 use Rattle.std.proofs.lemmas.List.{length-map, get_or-map, get_or_past}
 use Rattle.plain_lists.specs.Lists.{below, same_list, sorted}
+use Rattle.plain_lists.proofs.Each.{all_both, all_at, all_weaker, all_from, all_map, all_filter, all_flat_map, all_mapped}
+use Rattle.plain_lists.proofs.Finding.{none_passes, any_map, any_weaker, among, any_filter, stands, find-cases}
+use Rattle.plain_lists.proofs.Filters.{filter_passing}
+use Rattle.plain_lists.proofs.Below.{below-all, length-below, get_or-map-below}
 use Rattle.mesh_defs.specs.Tables.{dim_of}
 use Rattle.mesh_defs.specs.Mesh.{Mesh, Cell, placed_cells}
 use Rattle.mesh_defs.specs.Points.{Point, Sight, point_of, shows, sights_of, sights, vertex_sight, key, contains}
 use Rattle.mesh_defs.specs.Diagram.{strata}
-use Rattle.mesh_laws.proofs.Places.{all_both, all_at, all_weaker, all_from, all_map, all_filter, all_flat_map, none_passes, any_map, any_weaker, filter_passing}
-use Rattle.mesh_laws.proofs.Containing.{sights_of-any_place, below-all, length-below}
+use Rattle.mesh_laws.proofs.Containing.{sights_of-any_place}
 use Rattle.sf_defs.specs.declared.Op.{Op}
 use Rattle.sf_defs.specs.declared.Op.TheVariants.{Min}
 use Rattle.sf_defs.specs.declared.Ask.{Ask}
@@ -21,9 +24,8 @@ use Rattle.sf_defs.specs.Rounds.{Round, entry_at, in_order, places_of, places_on
 use Rattle.rank_defs.specs.Ranks.{IsAssignment, rank_of, assigned, ranks_at, owner, is_shared, own_key}
 use Rattle.rank_defs.specs.Home.{precedes, put_in_order, by_vertices, shared_points, home_points, home_words, home_asks, IsHomeRound}
 use Rattle.rank_laws.specs.Conditions.{in_some}
-use Rattle.rank_laws.proofs.Lists.{among, any_filter, stands, least-some, find-cases, image-below}
+use Rattle.rank_laws.proofs.Lists.{least-some}
 use Rattle.rank_laws.proofs.Owning.{owner-assigned, owner-below}
-use Rattle.rank_laws.proofs.Inverting.{of-images}
 use Rattle.rank_laws.proofs.OwnKeys.{given-among, key-of_own_keys}
 
 -- ---- minima one after another
@@ -280,7 +282,7 @@ module _ (m : Mesh) (n : ℕ) (a : List ℕ) (parts : IsAssignment m n a) (r : R
 
   -- what a rank below n asks, and that no other rank asks
   asks-of : (rank : ℕ) → rank < n → get_or r.asks rank [] ≡ home_asks m a points rank
-  asks-of rank h = ap (λ l. get_or l rank []) home.asks ∙ image-below (home_asks m a (home_points m a n)) [] n rank h
+  asks-of rank h = ap (λ l. get_or l rank []) home.asks ∙ get_or-map-below (home_asks m a (home_points m a n)) n rank [] h
 
   asks-beyond : (rank : ℕ) → n ≤ rank → get_or r.asks rank [] ≡ []
   asks-beyond rank h = ap (λ l. get_or l rank []) home.asks ∙ get_or_past (map (home_asks m a (home_points m a n)) (below n)) rank [] (omega (arith, length-map (below n) (home_asks m a (home_points m a n)), length-below n))
@@ -347,7 +349,7 @@ module _ (m : Mesh) (n : ℕ) (a : List ℕ) (parts : IsAssignment m n a) (r : R
       go true f = let same : first ≡ k = cc (sym first-own ∙ ap (λ q. own_key m a q p) (eqb-true (owner m a p) rank f) ∙ e) in omega (arith, ends.0)
       go false f =
           let (i, l, is) = ask-there m a d rank 0 w mine no_ask points low (asked f) in
-          let (t, v, at_rank, at_index) = turn-at (λ t. last ≤ (entry_at r.asks r.got t).ask.value) rank i (get_or r.order w []) (of-images (λ (x : Entry). last ≤ x.ask.value) (entry_at r.asks r.got) (get_or r.order w []) ends.1) (turned i l is) in
+          let (t, v, at_rank, at_index) = turn-at (λ t. last ≤ (entry_at r.asks r.got t).ask.value) rank i (get_or r.order w []) (all_mapped (λ (x : Entry). last ≤ x.ask.value) (entry_at r.asks r.got) (get_or r.order w []) ends.1) (turned i l is) in
           omega (arith, v, asks-own i is t at_rank at_index)
 
   -- the last value of the word is the key of its point

@@ -7,16 +7,16 @@ use Rattle.std.proofs.lemmas.List.Folds.{list_any-append}
 use Rattle.mesh_defs.specs.declared.Poly.{Poly}
 use Rattle.mesh_defs.specs.declared.Poly.TheVariants.{Vertex, Segment}
 use Rattle.plain_lists.specs.Lists.{picked}
+use Rattle.plain_lists.proofs.Each.{all_at, all_weaker, all_map, all_append, all_append_first, all_enumerated, all_mapped, each_passes}
+use Rattle.plain_lists.proofs.Below.{picked-picked}
 use Rattle.mesh_defs.specs.Tables.{Facet, dim_of, corner_count, facets_of, edges_of}
 use Rattle.mesh_defs.specs.Mesh.{Mesh, Cell}
 use Rattle.mesh_defs.specs.Points.{Point, Sight, point_on, point_of, shows, sights_of, vertex_sight, contains}
-use Rattle.mesh_laws.proofs.Places.{all_at, all_weaker, all_map, all_append, all_append_first, all_enumerated}
 use Rattle.mesh_laws.proofs.Firsts.{shown_itself}
 use Rattle.mesh_laws.proofs.Containing.{sights_of-any_place, vertex-contained}
 use Rattle.rank_laws.specs.Conditions.{IsFlatOrSolid, IsSoundCell}
-use Rattle.rank_laws.proofs.Inverting.{of-images}
-use Rattle.rank_laws.proofs.Shapes.{are_corners, is_pair, is_edge_of, is_side_of, is_face_of, all-pass, edges-are_pairs, sides-are_edges, facets-are_faces}
-use Rattle.rank_laws.proofs.Found.{two-entries, poly-one, edge-there, picked-picked}
+use Rattle.rank_laws.proofs.Shapes.{are_corners, is_pair, is_edge_of, is_side_of, is_face_of, edges-are_pairs, sides-are_edges, facets-are_faces}
+use Rattle.rank_laws.proofs.Found.{two-entries, poly-one, edge-there}
 use Rattle.rank_laws.proofs.TurnedEdges.{pair-below}
 
 -- an entry of a list stands in it
@@ -28,7 +28,7 @@ entry-among (v ∷ vs) (suc k) h = or_right (v == slice_index vs k) (list_any (�
 -- what all sights of a solid cell have but for their keys, its faces have
 pub faces-have : (P : Poly → List ℕ → Type 0) (c : ℕ) (cell : Cell) → dim_of cell.poly ≡ 3 → AllByRecursion (λ (s : Sight). P s.poly s.arrangement) (sights_of (c, cell)) → AllByRecursion (λ (f : Facet). P f.poly (picked cell.vertices f.corners)) (facets_of cell.poly)
 unfolding sights_of
-faces-have P c cell solid h = without-keys 0 (facets_of cell.poly) (of-images (λ (s : Sight). P s.poly s.arrangement) face (enumerate_from 0 (facets_of cell.poly))
+faces-have P c cell solid h = without-keys 0 (facets_of cell.poly) (all_mapped (λ (s : Sight). P s.poly s.arrangement) face (enumerate_from 0 (facets_of cell.poly))
     (subst (AllByRecursion (λ (s : Sight). P s.poly s.arrangement)) (cond-true (dim_of cell.poly == 3) (map face (enumerate_from 0 (facets_of cell.poly))) [] (eq-eqb (dim_of cell.poly) 3 solid))
     (all_append_first (λ (s : Sight). P s.poly s.arrangement) (if dim_of cell.poly == 3 then map face (enumerate_from 0 (facets_of cell.poly)) else []) edges h.1)))
   where
@@ -95,14 +95,14 @@ module _ (m : Mesh) (dims : IsFlatOrSolid m) (c : ℕ) (cell : Cell) (good : IsS
       end i low =
           let pair = and_parts (length e == 2) (are_corners (corner_count cell.poly) e) h in
           let long : i < length e = omega (arith, eqb-true (length e) 2 pair.0) in
-          let corner = ltb-true (slice_index e i) (corner_count cell.poly) (all_at (λ i. nat_lt i (corner_count cell.poly) ≡ true) e i 0 (all-pass (λ i. nat_lt i (corner_count cell.poly)) e (and_parts (list_all (λ i. nat_lt i (corner_count cell.poly)) e) _ pair.1).0) long) in
+          let corner = ltb-true (slice_index e i) (corner_count cell.poly) (all_at (λ i. nat_lt i (corner_count cell.poly) ≡ true) e i 0 (each_passes (λ i. nat_lt i (corner_count cell.poly)) e (and_parts (list_all (λ i. nat_lt i (corner_count cell.poly)) e) _ pair.1).0) long) in
           subst (λ v. contains cell (point_on Vertex (v ∷ [])) ≡ true) (sym (get_or-map (λ k. get_or cell.vertices k 0) e i 0 0 long))
           (vertex-contained (slice_index cell.vertices (slice_index e i)) cell (entry-among cell.vertices (slice_index e i) (omega (arith, good.corners))))
 
   -- the sides of a face
   face-keeps : (f : Facet) → is_face_of cell.poly f ≡ true → (k : ℕ) → Keeps (record { key = k; poly = f.poly; arrangement = picked cell.vertices f.corners })
   face-keeps f h k = all_weaker (λ (e : Facet). (is_pair (length f.corners) e.corners && is_side_of cell.poly (record { poly = e.poly; corners = picked f.corners e.corners })) ≡ true) (λ (e : Facet). contains cell (point_on e.poly (picked (picked cell.vertices f.corners) e.corners)) ≡ true) side (facets_of f.poly)
-      (all-pass (λ (e : Facet). is_pair (length f.corners) e.corners && is_side_of cell.poly (record { poly = e.poly; corners = picked f.corners e.corners })) (facets_of f.poly) (and_parts (are_corners (corner_count cell.poly) f.corners) _ (and_parts _ _ h).1).1)
+      (each_passes (λ (e : Facet). is_pair (length f.corners) e.corners && is_side_of cell.poly (record { poly = e.poly; corners = picked f.corners e.corners })) (facets_of f.poly) (and_parts (are_corners (corner_count cell.poly) f.corners) _ (and_parts _ _ h).1).1)
     where
       side : (e : Facet) → (is_pair (length f.corners) e.corners && is_side_of cell.poly (record { poly = e.poly; corners = picked f.corners e.corners })) ≡ true → contains cell (point_on e.poly (picked (picked cell.vertices f.corners) e.corners)) ≡ true
       side e x =
@@ -112,12 +112,12 @@ module _ (m : Mesh) (dims : IsFlatOrSolid m) (c : ℕ) (cell : Cell) (good : IsS
   -- the facets of the cell
   pub cell-keeps : AllByRecursion (λ (f : Facet). contains cell (point_on f.poly (picked cell.vertices f.corners)) ≡ true) (facets_of cell.poly)
   cell-keeps = ⊎_elim
-      (λ flat. all_weaker (λ f. is_side_of cell.poly f ≡ true) (λ (f : Facet). contains cell (point_on f.poly (picked cell.vertices f.corners)) ≡ true) (λ f h. side-contained f.poly f.corners h) (facets_of cell.poly) (all-pass (is_side_of cell.poly) (facets_of cell.poly) (sides-are_edges cell.poly (good.dim ∙ flat))))
+      (λ flat. all_weaker (λ f. is_side_of cell.poly f ≡ true) (λ (f : Facet). contains cell (point_on f.poly (picked cell.vertices f.corners)) ≡ true) (λ f h. side-contained f.poly f.corners h) (facets_of cell.poly) (each_passes (is_side_of cell.poly) (facets_of cell.poly) (sides-are_edges cell.poly (good.dim ∙ flat))))
       (λ solid. faces-have (λ poly vs. contains cell (point_on poly vs) ≡ true) c cell (good.dim ∙ solid) (all_weaker (λ s. list_any (shows (point_of s)) (sights_of (c, cell)) ≡ true) (λ s. contains cell (point_of s) ≡ true) (λ s h. seen-contained (point_of s) h) (sights_of (c, cell)) (shown_itself (sights_of (c, cell)))))
       dims
 
   -- all sights of the cell
   pub sights-keep : AllByRecursion Keeps (sights_of (c, cell))
   sights-keep = all-of_sights Keeps c cell cell-keeps
-      (λ solid k. all_weaker (λ f. is_face_of cell.poly f ≡ true) (λ (f : Facet). (k : ℕ) → Keeps (record { key = k; poly = f.poly; arrangement = picked cell.vertices f.corners })) face-keeps (facets_of cell.poly) (all-pass (is_face_of cell.poly) (facets_of cell.poly) (facets-are_faces cell.poly solid)))
-      (all_weaker (λ e. is_pair (corner_count cell.poly) e ≡ true) (λ (e : List ℕ). (k : ℕ) → Keeps (record { key = k; poly = Segment; arrangement = picked cell.vertices e })) edge-keeps (edges_of cell.poly) (all-pass (is_pair (corner_count cell.poly)) (edges_of cell.poly) (edges-are_pairs cell.poly)))
+      (λ solid k. all_weaker (λ f. is_face_of cell.poly f ≡ true) (λ (f : Facet). (k : ℕ) → Keeps (record { key = k; poly = f.poly; arrangement = picked cell.vertices f.corners })) face-keeps (facets_of cell.poly) (each_passes (is_face_of cell.poly) (facets_of cell.poly) (facets-are_faces cell.poly solid)))
+      (all_weaker (λ e. is_pair (corner_count cell.poly) e ≡ true) (λ (e : List ℕ). (k : ℕ) → Keeps (record { key = k; poly = Segment; arrangement = picked cell.vertices e })) edge-keeps (edges_of cell.poly) (each_passes (is_pair (corner_count cell.poly)) (edges_of cell.poly) (edges-are_pairs cell.poly)))

@@ -6,13 +6,13 @@ use Rattle.std.proofs.lemmas.Bool.{eq-eqb, eqb-true, ne_eqb, ltb-true, ltb-false
 use Rattle.std.proofs.lemmas.List.Elements.{filter_map-append}
 use Rattle.std.proofs.lemmas.List.Sums.{sum_by-cons}
 use Rattle.plain_lists.specs.Lists.{below}
-use Rattle.mesh_laws.proofs.Places.{all_both, each_fails, all_append_first, all_append_second, all_in_flat_map}
-use Rattle.mesh_laws.proofs.Turns.{find-passes}
-use Rattle.mesh_laws.proofs.Containing.{below-all, eqb-sym}
+use Rattle.plain_lists.proofs.Each.{all_both, all_append_first, all_append_second, all_in_flat_map, all_mapped}
+use Rattle.plain_lists.proofs.Finding.{each_fails, find-passes, find-cases, find-has}
+use Rattle.plain_lists.proofs.Below.{below-all, at-below}
+use Rattle.plain_lists.proofs.Filters.{image-at}
+use Rattle.mesh_laws.proofs.Containing.{eqb-sym}
 use Rattle.sf_defs.specs.declared.Leaf.{Leaf}
 use Rattle.sf_defs.specs.Forest.{Forest, leaf, root_at, leaves_on, roots_on, root_of, MeansSame, or_else, first_some, has_root, IsForest, is_on_root, degree, all_roots, shared_root, leaf_of, FitsLocals, invert}
-use Rattle.rank_laws.proofs.Lists.{find-cases, find-has}
-use Rattle.rank_laws.proofs.Lists.{image-at}
 use Rattle.rank_laws.proofs.Forests.{is_local, locals_differ, sound}
 
 -- ---- leaves that are found by their local index
@@ -147,16 +147,6 @@ first-unique root n (xs ∷ xss) x c h k local e f t = go (find (is_on_root root
         (λ none. absurd (both_ways (is_on_root root e) (find-has (λ y. is_on_root root y ≡ false) (is_local local) xs e (each_fails (is_on_root root) xs none) f') t)) (find-cases (is_on_root root) xs)
     go None g (suc j) h' f' r = let there : n + 1 + j ≡ n + suc j = omega arith in r (omega (arith, sum)) h' j local e f' t ∙ (λ i. (there i, local))
 
--- what all numbers below n have
-pub at-below : (P : ℕ → Type 0) (n : ℕ) → AllByRecursion P (below n) → (i : ℕ) → i < n → P i
-at-below P zero h i low = absurd (omega arith)
-at-below P (suc n) h i low = ⊎_elim (λ (lt : i < n). at-below P n (all_append_first P (below n) (n ∷ []) h) i lt) (λ (ge : n ≤ i). let same : n ≡ i = omega arith in subst P same (all_append_second P (below n) (n ∷ []) h).0) (cases_lt i n)
-
--- what all images have
-pub of-images : {X Y : Type 0} (P : Y → Type 0) (g : X → Y) (xs : List X) → AllByRecursion P (map g xs) → AllByRecursion (λ x. P (g x)) xs
-of-images P g [] h = tt
-of-images P g (x ∷ xs) h = (h.0, of-images P g xs h.1)
-
 -- what all enumerated numbers have, at a number that is not 0
 at-place : (P : ℕ × ℕ → Type 0) (n : ℕ) (xs : List ℕ) → AllByRecursion P (enumerate_from n xs) → (k : ℕ) → 0 < get_or xs k 0 → P (n + k, get_or xs k 0)
 at-place P n [] h k low = absurd (omega arith)
@@ -168,7 +158,7 @@ degree-low : (f : Forest) → shared_root f ≡ None → (rank index : ℕ) → 
 unfolding shared_root
 degree-low f h rank index low = ⊎_elim (λ (w : (x : ℕ × ℕ) × (find (λ (root : ℕ × ℕ). nat_lt 1 (degree f root.0 root.1)) (all_roots f) ≡ Some x)). absurd (cc (sym h ∙ w.1)))
     (λ none. let few = at-below (λ i. nat_lt 1 (degree f rank i) ≡ false) (roots_on f rank)
-    (of-images (λ (root : ℕ × ℕ). nat_lt 1 (degree f root.0 root.1) ≡ false) (λ i. (rank, i)) (below (roots_on f rank))
+    (all_mapped (λ (root : ℕ × ℕ). nat_lt 1 (degree f root.0 root.1) ≡ false) (λ i. (rank, i)) (below (roots_on f rank))
     (subst (λ k. AllByRecursion (λ (root : ℕ × ℕ). nat_lt 1 (degree f root.0 root.1) ≡ false) (map (λ i. (k, i)) (below (roots_on f rank)))) (zero-add rank) (at-place (λ r. AllByRecursion (λ (root : ℕ × ℕ). nat_lt 1 (degree f root.0 root.1) ≡ false) (map (λ i. (r.0, i)) (below r.1))) 0 f.roots
     (all_in_flat_map (λ (root : ℕ × ℕ). nat_lt 1 (degree f root.0 root.1) ≡ false) (λ r. map (λ i. (r.0, i)) (below r.1)) (enumerate_from 0 f.roots) (each_fails (λ (root : ℕ × ℕ). nat_lt 1 (degree f root.0 root.1)) (all_roots f) none))
     rank (omega arith)))) index low in ltb-false 1 (degree f rank index) few)

@@ -4,11 +4,12 @@ use Rattle.std.specs.Prelude.{find, option_map, option_and_then, filter_map}
 use Rattle.std.specs.List.{list_any, AllByRecursion, filter, enumerate_from, cons_option}
 use Rattle.std.proofs.lemmas.Bool.{eqb-true, or_parts, or_from, lt-ltb, cond-true, cond-false}
 use Rattle.plain_lists.specs.Lists.{below}
-use Rattle.mesh_laws.proofs.Places.{all_enumerated, none_passes, all_both, all_weaker, all_from, all_map, all_filter, each_fails}
-use Rattle.mesh_laws.proofs.Containing.{eqb-sym, below-all}
+use Rattle.plain_lists.proofs.Each.{all_enumerated, all_both, all_weaker, all_from, all_map, all_filter}
+use Rattle.plain_lists.proofs.Finding.{none_passes, each_fails, find-none}
+use Rattle.plain_lists.proofs.Below.{below-all}
+use Rattle.mesh_laws.proofs.Containing.{eqb-sym}
 use Rattle.sf_defs.specs.declared.Leaf.{Leaf}
 use Rattle.sf_defs.specs.Forest.{Forest, leaf, root_at, leaves_on, roots_on, root_of, has_root, ForestFlaw, flaw_on, flaw, IsForest, through, compose, leaf_of, FitsLocals, invert, is_kept, embed_roots, selected, embed_leaves}
-use Rattle.rank_laws.proofs.Lists.{find-none}
 use Rattle.rank_laws.proofs.Forests.{is_local, locals_differ, IsSound, sound, get_or-image}
 use Rattle.rank_laws.proofs.Inverting.{root-there, leaf-looks_up, local-fits, forest-findable}
 use Rattle.rank_laws.proofs.PointForests.{Rise, rise-from, nothing-first, forest-from}

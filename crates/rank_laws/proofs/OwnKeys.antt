@@ -6,13 +6,13 @@ use Rattle.std.proofs.lemmas.Bool.{eq-eqb, ne_eqb, and_left, or_left, or_right, 
 use Rattle.std.proofs.lemmas.List.Elements.{filter_map-append, All-contains_itself, recursion_from_All}
 use Rattle.std.proofs.lemmas.List.Folds.{list_any-append}
 use Rattle.plain_lists.specs.Lists.{below, same_list, sorted}
+use Rattle.plain_lists.proofs.Finding.{each_fails, none_passes, find-append_found, find-append_none, find-passes, find-none, find-cases, find-has}
+use Rattle.plain_lists.proofs.Each.{all_map, all_from, all_weaker, all_filter, all_flat_map, all_in_flat_map}
 use Rattle.mesh_defs.specs.Mesh.{Mesh, Cell, placed_cells}
 use Rattle.mesh_defs.specs.Points.{Point, Sight, shows, sights_of, sights, vertex_sight, vertex_sights, first_sight, key}
-use Rattle.mesh_laws.proofs.Places.{each_fails, none_passes, all_map, all_from, all_weaker, all_filter, all_flat_map, all_in_flat_map, find-append_found, find-append_none}
-use Rattle.mesh_laws.proofs.Turns.{find-passes}
 use Rattle.mesh_laws.proofs.Keys.{Rises, rises-wider, rises-append, sights_of-rise, found-least, key-least}
 use Rattle.rank_defs.specs.Ranks.{IsAssignment, least, rank_of, assigned, own_key}
-use Rattle.rank_laws.proofs.Lists.{find-none, find-cases, find-has, least-some}
+use Rattle.rank_laws.proofs.Lists.{least-some}
 use Rattle.rank_laws.proofs.Owning.{ranks-below, below_among}
 
 -- What is found in joined parts is found in the part of one element, and in every choice of the parts that has this one.

@@ -5,16 +5,17 @@ use Rattle.std.specs.List.{list_any, AllByRecursion, filter, enumerate_from}
 use Rattle.std.proofs.lemmas.List.Sorted.{IsPermutation-refl, IsPermutation-trans, IsPermutation-append, IsPermutation-filter_both}
 use Rattle.std.proofs.lemmas.List.Concat.{flat_map-append}
 use Rattle.plain_lists.specs.Lists.{below}
+use Rattle.plain_lists.proofs.Finding.{same_tests, any_map, any_weaker, any_same, any_filter, stands, any_implied}
+use Rattle.plain_lists.proofs.Each.{all_at, all_map, all_filter, all_from, all_weaker}
+use Rattle.plain_lists.proofs.Filters.{filter_passing, flat_map_same, filter_whole, and_implied, filter_within, filter_agree, filter_filter}
+use Rattle.plain_lists.proofs.Least.{least-among, least-bound}
 use Rattle.mesh_laws.proofs.Containing.{chart-all}
-use Rattle.mesh_laws.proofs.Firsts.{same_tests}
 use Rattle.std.proofs.lemmas.Bool.{cond-true, cond-false, ltb-true, ltb-false, lt-ltb, le-ltb, not-true, eq-eqb, eqb-true, or_left, or_cases, both_ways, and_parts, and_from}
 use Rattle.mesh_defs.specs.Mesh.{Mesh, Cell, placed_cells}
 use Rattle.mesh_defs.specs.Points.{Point, Sight, point_of, contains}
 use Rattle.mesh_defs.specs.Diagram.{strata, chart}
-use Rattle.mesh_laws.proofs.Places.{all_at, all_map, all_filter, filter_passing, flat_map_same, all_from, filter_whole, any_map, any_weaker, any_same, all_weaker}
 use Rattle.rank_defs.specs.Ranks.{IsAssignment, least, rank_of, assigned, touches, layer, held_cells, held, ranks_at, owner, owned}
 use Rattle.rank_laws.specs.Conditions.{UsesVertices, in_some}
-use Rattle.rank_laws.proofs.Lists.{and_implied, any_filter, filter_within, filter_agree, filter_filter, stands, any_implied, least-among, least-bound}
 
 -- an assigned cell of a rank contains a point just where the rank is one of those at the point
 pub in_assigned : (m : Mesh) (a : List ℕ) (r : ℕ) (p : Point) → in_some p (assigned m a r) ≡ list_any (λ q. q == r) (ranks_at m a p)

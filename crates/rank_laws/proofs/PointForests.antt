@@ -3,17 +3,19 @@ use Rattle.std.proofs.Common.{◌≡◌, ℕ, zero, suc, ◌+◌, ◌<◌, ◌�
 use Rattle.std.specs.List.{list_any, AllByRecursion, filter, enumerate_from}
 use Rattle.std.proofs.lemmas.Bool.{and_from, ne_eqb, lt-ltb, cond-true, cond-false}
 use Rattle.plain_lists.specs.Lists.{below}
+use Rattle.plain_lists.proofs.Filters.{map_map_same, filter_passing, image-at}
+use Rattle.plain_lists.proofs.Finding.{any_weaker, none_passes, position-within, any_filter}
+use Rattle.plain_lists.proofs.Each.{all_both, all_weaker, all_from, all_map, all_enumerated, all_filter}
+use Rattle.plain_lists.proofs.Below.{get_or-map-below}
 use Rattle.mesh_defs.specs.Mesh.{Mesh, Cell, placed_cells}
 use Rattle.mesh_defs.specs.Points.{Point, Sight, point_of, shows, contains}
 use Rattle.mesh_defs.specs.Diagram.{strata, chart, place_in}
-use Rattle.mesh_laws.proofs.Places.{map_map_same, any_weaker, all_both, all_weaker, all_from, all_map, all_enumerated, all_filter, none_passes, filter_passing, position-within}
 use Rattle.mesh_laws.proofs.Firsts.{shows-true, shown_itself}
 use Rattle.sf_defs.specs.declared.Leaf.{Leaf}
 use Rattle.sf_defs.specs.Forest.{Forest, leaf, root_at, leaves_on, or_else, first_some, has_root, ForestFlaw, flaw_on, flaw, IsForest}
 use Rattle.rank_defs.specs.Ranks.{IsAssignment, held_cells, held, owner, owned}
 use Rattle.rank_defs.specs.Spread.{charts, place_at_owner, leaves_at_owners, owned_places, point_forest, migration_forest, trace}
 use Rattle.rank_laws.specs.Conditions.{in_some}
-use Rattle.rank_laws.proofs.Lists.{any_filter, image-at, image-below}
 use Rattle.rank_laws.proofs.Owning.{held-are_cells, layers-have, owner-assigned, owner-below}
 
 -- ---- leaves without a flaw
@@ -103,7 +105,7 @@ module _ (m : Mesh) (n : ℕ) (a : List ℕ) (parts : IsAssignment m n a) (k : �
       rank = owner m a p
 
       here : get_or (charts m a n k) rank [] ≡ held m a rank k
-      here = image-below (λ r. held m a r k) [] n rank (owner-below m n a parts p h)
+      here = get_or-map-below (λ r. held m a r k) n rank [] (owner-below m n a parts p h)
 
       lengths : (xss : List (List Sight)) (j : ℕ) → get_or (map length xss) j 0 ≡ length (get_or xss j [])
       lengths [] j = refl
@@ -157,7 +159,7 @@ pub roots-are-traces : (m : Mesh) (n : ℕ) (a b : List ℕ) (r : ℕ) → r < n
 unfolding migration_forest trace owned charts
 roots-are-traces m n a b r h =
     ap (map root_at) (image-at [] (λ (x : ℕ × List Sight). leaves_at_owners m a old (owned_places m b x.0 x.1)) (λ j. refl) 0 (map (λ q. held m b q 0) (below n)) r
-    ∙ ap (λ (x : ℕ × List Sight). leaves_at_owners m a old (owned_places m b x.0 x.1)) (λ i. (zero-add r i, image-below (λ q. held m b q 0) [] n r h i)))
+    ∙ ap (λ (x : ℕ × List Sight). leaves_at_owners m a old (owned_places m b x.0 x.1)) (λ i. (zero-add r i, get_or-map-below (λ q. held m b q 0) n r [] h i)))
     ∙ map_map_same root_at (λ (s : ℕ × Sight). leaf s.0 (place_at_owner m a old (point_of s.1))) (λ (s : ℕ × Sight). place_at_owner m a old (point_of s.1)) places (all_from _ (λ s. refl) places)
     ∙ sym (map_map_same (λ s. place_at_owner m a old (point_of s)) (λ (s : ℕ × Sight). s.1) (λ (s : ℕ × Sight). place_at_owner m a old (point_of s.1)) places (all_from _ (λ s. refl) places))
     ∙ ap (map (λ s. place_at_owner m a old (point_of s))) (chosen-things (λ s. owner m b (point_of s) == r) 0 (held m b r 0))

@@ -4,16 +4,18 @@ use Rattle.std.specs.Prelude.{find, option_map, filter_map}
 use Rattle.std.specs.List.{list_any, position_or_len, AllByRecursion, filter, enumerate_from, cons_option}
 use Rattle.std.proofs.lemmas.Bool.{eq-eqb, ne_eqb, cond-true, cond-false}
 use Rattle.plain_lists.specs.Lists.{below}
+use Rattle.plain_lists.proofs.Each.{all_weaker, all_from, all_map, all_enumerated, all_filter}
+use Rattle.plain_lists.proofs.Filters.{map_map_same, image-at}
+use Rattle.plain_lists.proofs.Below.{get_or-map-below}
+use Rattle.plain_lists.proofs.Finding.{find-map}
 use Rattle.mesh_defs.specs.Mesh.{Mesh, placed_cells}
 use Rattle.mesh_defs.specs.Points.{Point, Sight, point_of, shows}
 use Rattle.mesh_defs.specs.Diagram.{strata, place_in}
-use Rattle.mesh_laws.proofs.Places.{all_weaker, all_from, all_map, all_enumerated, all_filter, map_map_same}
 use Rattle.mesh_laws.proofs.Firsts.{shows-true}
 use Rattle.sf_defs.specs.Forest.{leaf, root_at, root_of, through, compose}
 use Rattle.rank_defs.specs.Ranks.{IsAssignment, held, owner}
 use Rattle.rank_defs.specs.Spread.{charts, place_at_owner, leaves_at_owners, owned_places, migration_forest}
 use Rattle.rank_laws.specs.Conditions.{in_some}
-use Rattle.rank_laws.proofs.Lists.{image-at, image-below}
 use Rattle.rank_laws.proofs.Forests.{is_local}
 use Rattle.rank_laws.proofs.Owning.{owner-below}
 use Rattle.rank_laws.proofs.PointForests.{IsPoint, chart-points, owner-shows}
@@ -45,15 +47,6 @@ find-place p test passes n k (x ∷ xs) h e = go (shows p x) refl h e (find-plac
         )
     go false f g q r = let (t, found, is) = r g (omega arith) in (t, skipped (test (point_of x)) (ne_eqb n k (λ same. absurd (omega arith))) ∙ found, is)
 
--- what is found among images
-find-map : {X Y : Type 0} (p : Y → Bool) (f : X → Y) (xs : List X) → find p (map f xs) ≡ option_map f (find (λ x. p (f x)) xs)
-find-map p f [] = refl
-find-map p f (x ∷ xs) = go (p (f x)) (find-map p f xs)
-  where
-    go : (b : Bool) → find p (map f xs) ≡ option_map f (find (λ y. p (f y)) xs) → cond b (Some (f x)) (find p (map f xs)) ≡ option_map f (cond b (Some x) (find (λ y. p (f y)) xs))
-    go true r = refl
-    go false r = r
-
 -- filtering images, all of which give something
 filter_map-images : {X Y Z : Type 0} (f : Y → Option Z) (g : X → Y) (h : X → Z) (xs : List X) → AllByRecursion (λ x. f (g x) ≡ Some (h x)) xs → filter_map f (map g xs) ≡ map h xs
 filter_map-images f g h [] e = refl
@@ -68,7 +61,7 @@ module _ (m : Mesh) (n : ℕ) (a b : List ℕ) (parts : IsAssignment m n b) wher
   looked-up p seen h =
       ap (λ ls. option_map root_at (find (is_local k) ls))
       (image-at [] (λ (r : ℕ × List Sight). leaves_at_owners m a old (owned_places m b r.0 r.1)) (λ j. refl) 0 (map (λ r. held m b r 0) (below n)) rank
-      ∙ ap (λ (r : ℕ × List Sight). leaves_at_owners m a old (owned_places m b r.0 r.1)) (λ i. (zero-add rank i, image-below (λ r. held m b r 0) [] n rank (owner-below m n b parts p h) i)))
+      ∙ ap (λ (r : ℕ × List Sight). leaves_at_owners m a old (owned_places m b r.0 r.1)) (λ i. (zero-add rank i, get_or-map-below (λ r. held m b r 0) n rank [] (owner-below m n b parts p h) i)))
       ∙ ap (option_map root_at) (find-map (is_local k) (λ (s : ℕ × Sight). leaf s.0 (place_at_owner m a old (point_of s.1))) (owned_places m b rank (held m b rank 0)) ∙ ap (option_map (λ (s : ℕ × Sight). leaf s.0 (place_at_owner m a old (point_of s.1)))) (found-is).0)
       ∙ ap (λ q. Some (place_at_owner m a old q)) (found-is).1
     where
@@ -101,7 +94,7 @@ module _ (m : Mesh) (n : ℕ) (a b : List ℕ) (parts : IsAssignment m n b) wher
   }
     where
       one : (s : ℕ × Sight) → IsPoint m s.1 → through (migration_forest m a b n) (leaf s.0 (place_at_owner m b (charts m b n 0) (point_of s.1))) ≡ Some (leaf s.0 (place_at_owner m a (charts m a n 0) (point_of s.1)))
-      one s (seen, h) = ap (option_map (leaf s.0)) (ap (λ l. root_of (migration_forest m a b n) (owner m b (point_of s.1)) (place_in l (point_of s.1))) (image-below (λ r. held m b r 0) [] n (owner m b (point_of s.1)) (owner-below m n b parts (point_of s.1) h)) ∙ looked-up (point_of s.1) seen h)
+      one s (seen, h) = ap (option_map (leaf s.0)) (ap (λ l. root_of (migration_forest m a b n) (owner m b (point_of s.1)) (place_in l (point_of s.1))) (get_or-map-below (λ r. held m b r 0) n (owner m b (point_of s.1)) [] (owner-below m n b parts (point_of s.1) h)) ∙ looked-up (point_of s.1) seen h)
 
       rank : (r : ℕ × List Sight) → AllByRecursion (IsPoint m) r.1 → filter_map (through (migration_forest m a b n)) (leaves_at_owners m b (charts m b n 0) (owned_places m c r.0 r.1)) ≡ leaves_at_owners m a (charts m a n 0) (owned_places m c r.0 r.1)
       rank r h = filter_map-images (through (migration_forest m a b n)) (λ s. leaf s.0 (place_at_owner m b (charts m b n 0) (point_of s.1))) (λ s. leaf s.0 (place_at_owner m a (charts m a n 0) (point_of s.1))) (owned_places m c r.0 r.1)

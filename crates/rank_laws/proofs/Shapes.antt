@@ -6,21 +6,16 @@ use Rattle.std.proofs.lemmas.List.{length-map, get_or-map}
 use Rattle.mesh_defs.specs.declared.Poly.{Poly}
 use Rattle.mesh_defs.specs.declared.Poly.TheVariants.{Vertex, Segment, Triangle, Quad, Tet, Hex}
 use Rattle.plain_lists.specs.Lists.{below, same_list, picked}
+use Rattle.plain_lists.proofs.Each.{all_weaker, all_from, all_append, all_map, all_filter, all_flat_map, all_enumerated, all_at, each_passes}
+use Rattle.plain_lists.proofs.Below.{at-below as all-numbers, passes-below}
 use Rattle.mesh_defs.specs.Tables.{Facet, dim_of, corner_count, facets_of, edges_of}
 use Rattle.mesh_defs.specs.Mesh.{Mesh, Cell, placed_cells}
 use Rattle.mesh_defs.specs.Points.{Sight, sights_of, sights, vertex_sight, vertex_sights}
 use Rattle.mesh_defs.specs.Diagram.{firsts, stratum, strata}
-use Rattle.mesh_laws.proofs.Places.{all_weaker, all_from, all_append, all_map, all_filter, all_flat_map, all_enumerated, all_at}
 use Rattle.mesh_laws.proofs.Firsts.{firsts-all}
-use Rattle.rank_laws.proofs.Inverting.{at-below as all-numbers}
 use Rattle.rank_laws.specs.Conditions.{IsSoundCell, IsSoundMesh}
 
 -- ---- the tables
-
--- what all entries pass, as a test and as a fact
-pub all-pass : {X : Type 0} (p : X → Bool) (xs : List X) → list_all p xs ≡ true → AllByRecursion (λ x. p x ≡ true) xs
-all-pass p [] h = tt
-all-pass p (x ∷ xs) h = let both = and_parts (p x) (list_all p xs) h in (both.0, all-pass p xs both.1)
 
 -- these corners or the same the other way round are an edge
 abbrev pub is_edge_of : Poly → List ℕ → Bool
@@ -82,18 +77,14 @@ pub record HasShape (s : Sight) : Type 0 where
 apart : (vs : List ℕ) → ((i j : ℕ) → i < j → j < length vs → slice_index vs i ≢ slice_index vs j) → (i j : ℕ) → i < length vs → j < length vs → i ≢ j → slice_index vs i ≢ slice_index vs j
 apart vs d i j p q ne same = ⊎_elim (λ (lt : i < j). d i j lt q same) (λ (ge : j ≤ i). ⊎_elim (λ (lt : j < i). d j i lt p (sym same)) (λ (le : i ≤ j). ne (omega arith)) (cases_lt j i)) (cases_lt i j)
 
--- what a test on all numbers below n says of each
-pub at-below : (p : ℕ → Bool) (n i : ℕ) → list_all p (below n) ≡ true → i < n → p i ≡ true
-at-below p n i h low = all-numbers (λ k. p k ≡ true) n (all-pass p (below n) h) i low
-
 -- chosen vertices at different corners differ
 pub picked-differ : (vs cs : List ℕ) → ((i j : ℕ) → i < j → j < length vs → slice_index vs i ≢ slice_index vs j) → are_corners (length vs) cs ≡ true → (i j : ℕ) → i < j → j < length (picked vs cs) → slice_index (picked vs cs) i ≢ slice_index (picked vs cs) j
 picked-differ vs cs d h i j low high same =
     let both = and_parts (list_all (λ c. nat_lt c (length vs)) cs) (list_all (λ k. list_all (λ l. not (get_or cs l 0 == get_or cs k 0)) (below k)) (below (length cs))) h in
     let long = length-map cs (λ k. get_or vs k 0) in
-    let corner : AllByRecursion (λ c. c < length vs) cs = all_weaker (λ c. nat_lt c (length vs) ≡ true) (λ c. c < length vs) (λ c e. ltb-true c (length vs) e) cs (all-pass (λ c. nat_lt c (length vs)) cs both.0) in
+    let corner : AllByRecursion (λ c. c < length vs) cs = all_weaker (λ c. nat_lt c (length vs) ≡ true) (λ c. c < length vs) (λ c e. ltb-true c (length vs) e) cs (each_passes (λ c. nat_lt c (length vs)) cs both.0) in
     apart vs d (get_or cs i 0) (get_or cs j 0) (all_at (λ c. c < length vs) cs i 0 corner (omega arith)) (all_at (λ c. c < length vs) cs j 0 corner (omega arith))
-    (λ e. both_ways _ (not-true _ (at-below (λ l. not (get_or cs l 0 == get_or cs j 0)) j i (at-below (λ k. list_all (λ l. not (get_or cs l 0 == get_or cs k 0)) (below k)) (length cs) j both.1 (omega arith)) low)) (eq-eqb _ _ e))
+    (λ e. both_ways _ (not-true _ (passes-below (λ l. not (get_or cs l 0 == get_or cs j 0)) j i (passes-below (λ k. list_all (λ l. not (get_or cs l 0 == get_or cs k 0)) (below k)) (length cs) j both.1 (omega arith)) low)) (eq-eqb _ _ e))
     (sym (get_or-map (λ k. get_or vs k 0) cs i 0 0 (omega arith)) ∙ same ∙ get_or-map (λ k. get_or vs k 0) cs j 0 0 (omega arith))
 
 -- chosen vertices have a shape where they are as many as the corners of a polytope
@@ -119,7 +110,7 @@ module _ (m : Mesh) (c : ℕ) (cell : Cell) (sound : IsSoundCell m cell) where
     record { corners = sound.corners; different = sound.different },
     all_append HasShape (faces (dim_of cell.poly == 3)) (map edge (enumerate_from 0 (edges_of cell.poly))) (faces-shape (dim_of cell.poly == 3) refl)
         (all_map HasShape edge (enumerate_from 0 (edges_of cell.poly))
-        (all_weaker (λ (e : ℕ × List ℕ). is_pair (corner_count cell.poly) e.1 ≡ true) (λ e. HasShape (edge e)) edge-shape (enumerate_from 0 (edges_of cell.poly)) (all_enumerated (λ e. is_pair (corner_count cell.poly) e ≡ true) 0 (edges_of cell.poly) (all-pass (is_pair (corner_count cell.poly)) (edges_of cell.poly) (edges-are_pairs cell.poly))))),
+        (all_weaker (λ (e : ℕ × List ℕ). is_pair (corner_count cell.poly) e.1 ≡ true) (λ e. HasShape (edge e)) edge-shape (enumerate_from 0 (edges_of cell.poly)) (all_enumerated (λ e. is_pair (corner_count cell.poly) e ≡ true) 0 (edges_of cell.poly) (each_passes (is_pair (corner_count cell.poly)) (edges_of cell.poly) (edges-are_pairs cell.poly))))),
   )
     where
       edge : ℕ × List ℕ → Sight
@@ -134,7 +125,7 @@ module _ (m : Mesh) (c : ℕ) (cell : Cell) (sound : IsSoundCell m cell) where
       faces-shape : (b : Bool) → (dim_of cell.poly == 3) ≡ b → AllByRecursion HasShape (faces b)
       faces-shape false e = tt
       faces-shape true e = all_map HasShape face (enumerate_from 0 (facets_of cell.poly))
-          (all_weaker (λ (f : ℕ × Facet). is_face_of cell.poly f.1 ≡ true) (λ f. HasShape (face f)) face-shape (enumerate_from 0 (facets_of cell.poly)) (all_enumerated (λ f. is_face_of cell.poly f ≡ true) 0 (facets_of cell.poly) (all-pass (is_face_of cell.poly) (facets_of cell.poly) (facets-are_faces cell.poly (eqb-true (dim_of cell.poly) 3 e)))))
+          (all_weaker (λ (f : ℕ × Facet). is_face_of cell.poly f.1 ≡ true) (λ f. HasShape (face f)) face-shape (enumerate_from 0 (facets_of cell.poly)) (all_enumerated (λ f. is_face_of cell.poly f ≡ true) 0 (facets_of cell.poly) (each_passes (is_face_of cell.poly) (facets_of cell.poly) (facets-are_faces cell.poly (eqb-true (dim_of cell.poly) 3 e)))))
 
 -- what vertices and all sights of cells have, all points of the mesh have
 pub all-of_strata : (P : Sight → Type 0) (m : Mesh) → AllByRecursion P (vertex_sights m) → AllByRecursion P (sights (placed_cells m)) → AllByRecursion P (strata m)

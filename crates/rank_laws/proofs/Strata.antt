@@ -7,14 +7,17 @@ use Rattle.std.proofs.lemmas.List.Elements.{All-contains, All-from_recursion}
 use Rattle.std.proofs.lemmas.List.{map-append}
 use Rattle.std.proofs.lemmas.List.Folds.{list_any-append}
 use Rattle.plain_lists.specs.Lists.{below, same_list, sorted}
+use Rattle.plain_lists.proofs.Each.{all_both, all_weaker, all_from, all_append, all_map}
+use Rattle.plain_lists.proofs.Finding.{each_fails, none_passes, find-append_found, find-append_none, found-any, find-filter}
+use Rattle.plain_lists.proofs.Filters.{filter_passing}
+use Rattle.plain_lists.proofs.Below.{below-all}
 use Rattle.mesh_defs.specs.Tables.{dim_of}
 use Rattle.mesh_defs.specs.Mesh.{Mesh, placed_cells}
 use Rattle.mesh_defs.specs.Points.{Sight, point_of, shows, sights, vertex_sight, vertex_sights, first_sight, key, arrangement}
 use Rattle.mesh_defs.specs.Diagram.{firsts_after, firsts, stratum, strata}
 use Rattle.mesh_defs.specs.Sights.{points_differ}
-use Rattle.mesh_laws.proofs.Places.{all_both, all_weaker, all_from, all_append, all_map, each_fails, none_passes, filter_passing, find-append_found, find-append_none}
 use Rattle.mesh_laws.proofs.Firsts.{same_point-sym, shows-own, find-firsts, firsts-all}
-use Rattle.mesh_laws.proofs.Containing.{below-all, shows-vertex}
+use Rattle.mesh_laws.proofs.Containing.{shows-vertex}
 use Rattle.rank_laws.specs.Conditions.{IsFlatOrSolid}
 
 -- ---- points that differ
@@ -126,26 +129,6 @@ found-itself (x ∷ xs) d =
       all_both (λ t. shows (point_of x) t ≡ false) (λ t. find (shows (point_of t)) xs ≡ Some t) (λ t. find (shows (point_of t)) (x ∷ xs) ≡ Some t)
           (λ t e f. cond-false (shows (point_of t) x) (Some x) (find (shows (point_of t)) xs) (same_point-sym (point_of t) (point_of x) ∙ e) ∙ f) xs (each_fails (shows (point_of x)) xs (not-true _ both.0)) (found-itself xs both.1),
     )
-
--- a search does not see what a filter drops, where all that passes the one passes the other
-find-filter : {X : Type 0} (p q : X → Bool) → ((x : X) → p x ≡ true → q x ≡ true) → (xs : List X) → find p (filter q xs) ≡ find p xs
-find-filter p q f [] = refl
-find-filter p q f (x ∷ xs) = go (q x) refl (p x) refl (find-filter p q f xs)
-  where
-    go : (b : Bool) → q x ≡ b → (c : Bool) → p x ≡ c → find p (filter q xs) ≡ find p xs → find p (cond b (x ∷ filter q xs) (filter q xs)) ≡ cond c (Some x) (find p xs)
-    go true e true k r = cond-true (p x) (Some x) (find p (filter q xs)) k
-    go true e false k r = cond-false (p x) (Some x) (find p (filter q xs)) k ∙ r
-    go false e true k r = absurd (both_ways (q x) e (f x k))
-    go false e false k r = r
-
--- where something is found, something passes
-pub found-any : {X : Type 0} (p : X → Bool) (xs : List X) (x : X) → find p xs ≡ Some x → list_any p xs ≡ true
-found-any p [] x e = absurd (cc e)
-found-any p (y ∷ ys) x e = go (p y) e (found-any p ys x)
-  where
-    go : (b : Bool) → cond b (Some y) (find p ys) ≡ Some x → (find p ys ≡ Some x → list_any p ys ≡ true) → (b || list_any p ys) ≡ true
-    go true f r = refl
-    go false f r = r f
 
 -- the points of a stratum are there as they are first seen in the whole mesh
 stratum-first : (m : Mesh) (dim : ℕ) → AllByRecursion (λ s. first_sight m (point_of s) ≡ Some s) (stratum m dim)

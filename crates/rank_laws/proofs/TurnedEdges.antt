@@ -7,13 +7,14 @@ use Rattle.std.proofs.lemmas.List.{length-map}
 use Rattle.mesh_defs.specs.declared.Poly.{Poly}
 use Rattle.mesh_defs.specs.declared.Poly.TheVariants.{Vertex, Segment, Triangle, Quad, Tet, Hex}
 use Rattle.plain_lists.specs.Lists.{same_list, sorted, picked}
+use Rattle.plain_lists.proofs.Each.{all_weaker, all_both, each_passes}
+use Rattle.plain_lists.proofs.Finding.{among, find-has}
+use Rattle.plain_lists.proofs.Below.{picked-picked}
 use Rattle.mesh_defs.specs.Tables.{dim_of, corner_count, facets_of, edges_of}
 use Rattle.mesh_defs.specs.Orientation.{rotations, reflections, orientations, corners_under, act, relative}
-use Rattle.mesh_laws.proofs.Places.{all_weaker, all_both}
 use Rattle.mesh_laws.proofs.Turns.{relative-carries}
-use Rattle.rank_laws.proofs.Lists.{among, find-has}
-use Rattle.rank_laws.proofs.Shapes.{are_corners, is_pair, all-pass, edges-are_pairs}
-use Rattle.rank_laws.proofs.Found.{two-entries, sorted-turned, picked-picked}
+use Rattle.rank_laws.proofs.Shapes.{are_corners, is_pair, edges-are_pairs}
+use Rattle.rank_laws.proofs.Found.{two-entries, sorted-turned}
 
 -- each edge of the corners is an edge of the corners under an orientation, one way or the other
 abbrev keeps_edges : Poly → ℤ → Bool
@@ -32,7 +33,7 @@ polygons-keep_edges Hex e = absurd (omega arith)
 -- the orientation that is found keeps edges
 relative-keeps : (p : Poly) (from to : List ℕ) (o : ℤ) → dim_of p ≡ 2 → relative p from to ≡ Some o → keeps_edges p o ≡ true
 unfolding relative
-relative-keeps p from to o flat h = find-has (λ o. keeps_edges p o ≡ true) (λ o. same_list (act p o from) to) (orientations p) o (all-pass (keeps_edges p) (orientations p) (polygons-keep_edges p flat)) h
+relative-keeps p from to o flat h = find-has (λ o. keeps_edges p o ≡ true) (λ o. same_list (act p o from) to) (orientations p) o (each_passes (keeps_edges p) (orientations p) (polygons-keep_edges p flat)) h
 
 -- the facets of a polygon are its edges
 pub polygon-facets : (p : Poly) → dim_of p ≡ 2 → facets_of p ≡ map (λ e. record { poly = Segment; corners = e }) (edges_of p)
@@ -47,18 +48,18 @@ polygon-facets Hex e = absurd (omega arith)
 pub pair-below : (n : ℕ) (e : List ℕ) → is_pair n e ≡ true → AllByRecursion (λ k. k < n) e
 pair-below n e h =
     let both = and_parts (length e == 2) (are_corners n e) h in
-    all_weaker (λ k. nat_lt k n ≡ true) (λ k. k < n) (λ k x. ltb-true k n x) e (all-pass (λ k. nat_lt k n) e (and_parts (list_all (λ k. nat_lt k n) e) _ both.1).0)
+    all_weaker (λ k. nat_lt k n ≡ true) (λ k. k < n) (λ k x. ltb-true k n x) e (each_passes (λ k. nat_lt k n) e (and_parts (list_all (λ k. nat_lt k n) e) _ both.1).0)
 
 -- What the edges of a polygon have as sets, the edges have when the polygon is listed under another orientation.
 pub turned-edges : (Q : List ℕ → Type 0) (p : Poly) (from to : List ℕ) (o : ℤ) → dim_of p ≡ 2 → length to ≡ corner_count p → relative p from to ≡ Some o → AllByRecursion (λ e. Q (sorted (picked to e))) (edges_of p) → AllByRecursion (λ e. Q (sorted (picked from e))) (edges_of p)
 unfolding act
 turned-edges Q p from to o flat long h all =
     all_both (λ e. list_any (λ f. same_list (picked (corners_under p o) f) e || same_list (picked (corners_under p o) f) (get_or e 1 0 ∷ get_or e 0 0 ∷ [])) (edges_of p) ≡ true) (λ e. is_pair (corner_count p) e ≡ true) (λ e. Q (sorted (picked from e))) one (edges_of p)
-    (all-pass (λ e. list_any (λ f. same_list (picked (corners_under p o) f) e || same_list (picked (corners_under p o) f) (get_or e 1 0 ∷ get_or e 0 0 ∷ [])) (edges_of p)) (edges_of p) (relative-keeps p from to o flat h))
+    (each_passes (λ e. list_any (λ f. same_list (picked (corners_under p o) f) e || same_list (picked (corners_under p o) f) (get_or e 1 0 ∷ get_or e 0 0 ∷ [])) (edges_of p)) (edges_of p) (relative-keeps p from to o flat h))
     pairs
   where
     pairs : AllByRecursion (λ e. is_pair (corner_count p) e ≡ true) (edges_of p)
-    pairs = all-pass (is_pair (corner_count p)) (edges_of p) (edges-are_pairs p)
+    pairs = each_passes (is_pair (corner_count p)) (edges_of p) (edges-are_pairs p)
 
     carried : picked from (corners_under p o) ≡ to
     carried = relative-carries p from to o h

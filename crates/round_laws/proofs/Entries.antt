@@ -5,44 +5,18 @@ use Rattle.std.specs.List.{AllByRecursion, enumerate_from}
 use Rattle.std.proofs.lemmas.Bool.{eq-eqb, ne_eqb, cond-true, cond-false}
 use Rattle.std.proofs.lemmas.List.{append-nil, map-append}
 use Rattle.std.proofs.lemmas.List.Elements.{filter-append}
+use Rattle.plain_lists.proofs.Each.{all_weaker, all_both}
+use Rattle.plain_lists.proofs.Filters.{filter-swap, filter-mapped, filter_whole, filter_none}
+use Rattle.std.proofs.lemmas.Simd.{map-map}
 use Rattle.sf_defs.specs.declared.Op.TheVariants.{Load}
 use Rattle.sf_defs.specs.declared.Ask.{Ask}
 use Rattle.sf_defs.specs.declared.Turn.{Turn}
 use Rattle.sf_defs.specs.Asks.{Entry, of_rank, on_word, IsRising, HasOwnOrder}
 use Rattle.sf_defs.specs.Rounds.{rank_entries, entries, turn_of, entry_at, all_asks, asks_on, places_of, places_on}
-use Rattle.round_laws.proofs.Lists.{all_weaker, all_both}
 use Rattle.round_laws.proofs.Shuffles.{all_by_rank}
 use Rattle.round_laws.proofs.Word.{asks_of}
 
 -- ---- filters
-
--- two tests in either order
-pub filter-swap : {X : Type 0} (p q : X → Bool) (xs : List X) → filter p (filter q xs) ≡ filter q (filter p xs)
-filter-swap p q [] = refl
-filter-swap p q (x ∷ xs) = go (p x) (q x) refl refl (filter-swap p q xs)
-  where
-    go : (a b : Bool) → p x ≡ a → q x ≡ b → filter p (filter q xs) ≡ filter q (filter p xs) → filter p (cond b (x ∷ filter q xs) (filter q xs)) ≡ filter q (cond a (x ∷ filter p xs) (filter p xs))
-    go true true h k r = cond-true (p x) _ _ h ∙ ap (λ l. x ∷ l) r ∙ sym (cond-true (q x) _ _ k)
-    go true false h k r = r ∙ sym (cond-false (q x) _ _ k)
-    go false true h k r = cond-false (p x) _ _ h ∙ r
-    go false false h k r = r
-
--- a test before a map or after it
-pub filter-mapped : {X Y : Type 0} (f : X → Y) (p : Y → Bool) (xs : List X) → map f (filter (λ x. p (f x)) xs) ≡ filter p (map f xs)
-filter-mapped f p [] = refl
-filter-mapped f p (x ∷ xs) = go (p (f x)) (filter-mapped f p xs)
-  where
-    go : (b : Bool) → map f (filter (λ y. p (f y)) xs) ≡ filter p (map f xs) → map f (cond b (x ∷ filter (λ y. p (f y)) xs) (filter (λ y. p (f y)) xs)) ≡ cond b (f x ∷ filter p (map f xs)) (filter p (map f xs))
-    go true r = ap (λ l. f x ∷ l) r
-    go false r = r
-
-pub filter_whole : {X : Type 0} (p : X → Bool) (xs : List X) → AllByRecursion (λ x. p x ≡ true) xs → filter p xs ≡ xs
-filter_whole p [] h = refl
-filter_whole p (x ∷ xs) h = cond-true (p x) _ _ h.0 ∙ ap (λ l. x ∷ l) (filter_whole p xs h.1)
-
-pub filter_none : {X : Type 0} (p : X → Bool) (xs : List X) → AllByRecursion (λ x. p x ≡ false) xs → filter p xs ≡ []
-filter_none p [] h = refl
-filter_none p (x ∷ xs) h = cond-false (p x) _ _ h.0 ∙ filter_none p xs h.1
 
 -- what rises still rises after a filter
 pub rising-filter : {X : Type 0} (f : X → ℕ) (p : X → Bool) (xs : List X) → IsRising (map f xs) → IsRising (map f (filter p xs))
@@ -60,10 +34,6 @@ rising-filter {X = X} f p (x ∷ xs) h = go (p x) (kept xs h.0) (rising-filter f
     go : (b : Bool) → AllByRecursion (λ m. f x < m) (map f (filter p xs)) → IsRising (map f (filter p xs)) → IsRising (map f (cond b (x ∷ filter p xs) (filter p xs)))
     go true k r = (k, r)
     go false k r = r
-
-pub map_map : {X Y Z : Type 0} (f : Y → Z) (g : X → Y) (xs : List X) → map f (map g xs) ≡ map (λ x. f (g x)) xs
-map_map f g [] = refl
-map_map f g (x ∷ xs) = ap (λ l. f (g x) ∷ l) (map_map f g xs)
 
 -- ---- one rank
 
@@ -218,17 +188,8 @@ same_lengths (suc rank) (a ∷ asks) (g ∷ got) h = let rest : map length got �
 
 -- the places of a rank's turns
 pub places_of-turns : (rank : ℕ) (es : List Entry) → places_of rank (map turn_of es) ≡ map (λ (e : Entry). e.index) (of_rank rank es)
-places_of-turns rank es = ap (map (λ (t : Turn). t.index)) (sym (filter-mapped turn_of (λ (t : Turn). t.rank == rank) es)) ∙ map_map (λ (t : Turn). t.index) turn_of (of_rank rank es)
+places_of-turns rank es = ap (map (λ (t : Turn). t.index)) (sym (filter-mapped turn_of (λ (t : Turn). t.rank == rank) es)) ∙ map-map (λ (t : Turn). t.index) turn_of (of_rank rank es)
 
 -- the places of a rank's entries on a word are those of its asks there
 pub places_on-entries : (rank w : ℕ) (asks : List (List Ask)) (got : List (List ℕ)) → map length got ≡ map length asks → map (λ (e : Entry). e.index) (of_rank rank (on_word w (entries asks got))) ≡ places_on w (get_or asks rank [])
 places_on-entries rank w asks got h = ap (map (λ (e : Entry). e.index)) (of_rank-on_word rank w asks got) ∙ numbered-places w rank 0 (get_or asks rank []) (get_or got rank []) (same_lengths rank asks got h)
-
--- what a filter keeps passes
-pub filter_passing : {X : Type 0} (p : X → Bool) (xs : List X) → AllByRecursion (λ x. p x ≡ true) (filter p xs)
-filter_passing p [] = tt
-filter_passing {X = X} p (x ∷ xs) = go (p x) refl (filter_passing p xs)
-  where
-    go : (b : Bool) → p x ≡ b → AllByRecursion (λ y. p y ≡ true) (filter p xs) → AllByRecursion (λ y. p y ≡ true) (cond b (x ∷ filter p xs) (filter p xs))
-    go true h r = (h, r)
-    go false h r = r

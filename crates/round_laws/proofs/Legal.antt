@@ -2,17 +2,19 @@
 use Rattle.std.proofs.Common.{◌≡◌, ℕ, ◌<◌, true, ◌==◌, List, [], ◌∷◌, map, length, get_or, refl, sym, ap, subst, ◌∙◌}
 use Rattle.std.specs.List.{AllByRecursion}
 use Rattle.std.proofs.lemmas.Bool.{eqb-true}
+use Rattle.plain_lists.proofs.Each.{all_filter, all_weaker}
+use Rattle.plain_lists.proofs.Filters.{filter_passing}
+use Rattle.std.proofs.lemmas.Simd.{map-map}
 use Rattle.sf_defs.specs.declared.Ask.{Ask}
 use Rattle.sf_defs.specs.declared.Turn.{Turn}
 use Rattle.sf_defs.specs.Asks.{Entry, Replays, of_rank, on_word, IsOrderOf}
 use Rattle.sf_defs.specs.PrintedOrder.{kind_of, stands_before, printed_order}
 use Rattle.sf_defs.specs.Rounds.{Round, SuitsWord, MeetsConditions, IsLegal, entries, entry_at, turn_of, printed_turns, in_order, places_of, places_on}
 use Rattle.round_laws.specs.ReplayingOrders.{HasReplayingOrders, IsPrinted}
-use Rattle.round_laws.proofs.Lists.{all_filter, all_weaker}
 use Rattle.round_laws.proofs.Shuffles.{rank_of_all}
 use Rattle.round_laws.proofs.Sorting.{all_sorted}
 use Rattle.round_laws.proofs.Word.{asks_of, printed-replays, printed-is_order}
-use Rattle.round_laws.proofs.Entries.{entries-at, entries-own_order, asks_on-entries, places_of-turns, places_on-entries, map_map, filter_passing}
+use Rattle.round_laws.proofs.Entries.{entries-at, entries-own_order, asks_on-entries, places_of-turns, places_on-entries}
 
 -- entries that their turns name are the entries at their turns
 named_again : (asks : List (List Ask)) (got : List (List ℕ)) (es : List Entry) → AllByRecursion (λ (e : Entry). entry_at asks got (turn_of e) ≡ e) es → map (entry_at asks got) (map turn_of es) ≡ es
@@ -71,7 +73,7 @@ legal-is-order r legal w within rank =
     let named = all_filter (λ (e : Entry). entry_at r.asks r.got (turn_of e) ≡ e) (λ (e : Entry). e.ask.word == w) (entries r.asks r.got) (entries-at r.asks r.got) in
     let printed : in_order r w ≡ printed_order (get_or r.before w 0) (on_word w (entries r.asks r.got)) = ap (map (entry_at r.asks r.got)) (legal.printed w within) ∙ printed-entries r.before r.asks r.got w in
     let names : AllByRecursion (λ (e : Entry). entry_at r.asks r.got (turn_of e) ≡ e) (in_order r w) = subst (AllByRecursion (λ (e : Entry). entry_at r.asks r.got (turn_of e) ≡ e)) (sym printed) (all_printed (λ (e : Entry). entry_at r.asks r.got (turn_of e) ≡ e) (get_or r.before w 0) (on_word w (entries r.asks r.got)) named) in
-    let turns : map turn_of (in_order r w) ≡ get_or r.order w [] = map_map turn_of (entry_at r.asks r.got) (get_or r.order w []) ∙ same_map (get_or r.order w []) in
+    let turns : map turn_of (in_order r w) ≡ get_or r.order w [] = map-map turn_of (entry_at r.asks r.got) (get_or r.order w []) ∙ same_map (get_or r.order w []) in
     let places : map (λ (e : Entry). e.index) (of_rank rank (in_order r w)) ≡ map (λ (e : Entry). e.index) (of_rank rank (on_word w (entries r.asks r.got))) =
     sym (places_of-turns rank (in_order r w)) ∙ ap (places_of rank) turns ∙ legal.each_once w rank within ∙ sym (places_on-entries rank w r.asks r.got legal.fetched) in
     sym (by_places rank r.asks r.got (of_rank rank (in_order r w)) (rank_of_all _ rank (in_order r w) names) (of_this (in_order r w)))

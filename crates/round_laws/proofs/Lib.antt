@@ -1,11 +1,9 @@
-pub mod Lists
 pub mod Comparison
 pub mod Shuffles
 pub mod Sorting
 pub mod Replay
 pub mod Directions
 pub mod Word
-pub mod Below
 pub mod Entries
 pub mod Legal
 pub mod Scripts

@@ -5,12 +5,12 @@ use Rattle.std.proofs.lemmas.Bool.{false≢true, leb-true, ltb-false, both_ways}
 use Rattle.std.proofs.lemmas.List.Sums.{sum_by-cons}
 use Rattle.std.proofs.lemmas.List.Elements.{All-from_recursion, recursion_from_All}
 use Rattle.std.proofs.lemmas.List.Sorted.{sum_by-IsPermutation, All-permutation}
+use Rattle.plain_lists.proofs.Each.{all_weaker, all_filter}
 use Rattle.sf_defs.specs.declared.Op.{Op}
 use Rattle.sf_defs.specs.declared.Ask.{Ask}
 use Rattle.sf_defs.specs.Asks.{Entry, on_word, IsOrderOf}
 use Rattle.sf_defs.specs.PrintedOrder.{changes, then_by, kind_of, stands_before, placed, sorted_by, printed_order}
 use Rattle.sf_defs.specs.Rounds.{entries, entry_at, turn_of}
-use Rattle.round_laws.proofs.Lists.{all_weaker, all_filter}
 use Rattle.round_laws.proofs.Comparison.{IsTotal, total_printed, strict_fetched, strict_rising}
 use Rattle.round_laws.proofs.Shuffles.{all_shuffled, count-shuffled}
 use Rattle.round_laws.proofs.Sorting.{all_placed, all_sorted, placed-before, placed-behind}

@@ -2,10 +2,10 @@
 use Rattle.std.proofs.Common.{◌≡◌, ◌⊎◌, ℕ, ◌<◌, Bool, true, false, cond, not, ◌&&◌, ◌||◌, ◌==◌, nat_lt, nat_le, List, [], ◌∷◌, map, refl, sym, ap, subst, ◌∙◌, inl, inr, ⊎_elim, arith}
 use Rattle.std.specs.List.{AllByRecursion}
 use Rattle.std.proofs.lemmas.Bool.{true≢false, le-ltb, le-leb, eqb-true, cases_Bool}
+use Rattle.plain_lists.proofs.Each.{all_weaker, all_both, all_mapped}
 use Rattle.sf_defs.specs.declared.Op.{Op}
 use Rattle.sf_defs.specs.Asks.{Entry, after_ask, Replays, of_rank, IsRising, HasOwnOrder}
 use Rattle.sf_defs.specs.PrintedOrder.{fetched_before, changes, then_by, stands_before, placed, sorted_by}
-use Rattle.round_laws.proofs.Lists.{all_weaker, all_both, all_mapped}
 use Rattle.round_laws.proofs.Comparison.{strict_fetched, strict_irreflexive, strict_trans}
 use Rattle.round_laws.proofs.Shuffles.{of_rank-same, all_of_rank}
 use Rattle.round_laws.proofs.Sorting.{OwnFirst}
@@ -38,7 +38,7 @@ module _ (kind : Op) (first : ℕ) where
       let there : fetched_before kind first e.got d.got ≡ false = ap (λ g. fetched_before kind first e.got g) same ∙ strict_irreflexive (fetched_before kind first) (strict_fetched kind first) e.got in
       (λ i. then_by (here i) (there i) (then_by (not (changes d) && changes e) (not (changes e) && changes d) (then_by (nat_lt d.rank e.rank) (nat_lt e.rank d.rank) (nat_le d.index e.index))))
 
-  -- e fetched v, the next entry fetched what e left, and yet e stands behind it: neither changes the word
+  -- e fetched v, the next entry fetched what e left, and yet e stands after it: neither changes the word
   idle_behind : (e x : Entry) → MovesOn e → x.got ≡ after_ask e.ask e.got → stands_before kind first e x ≡ false → (changes e ≡ false) × (changes x ≡ false)
   idle_behind e x moves next behind = go (changes e) refl
     where

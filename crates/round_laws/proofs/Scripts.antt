@@ -7,16 +7,18 @@ use Rattle.std.proofs.lemmas.List.{length-map, length-set, get_or-set_same, get_
 use Rattle.std.proofs.lemmas.List.Elements.{filter-append}
 use Rattle.std.proofs.lemmas.List.FromFn.{length-enumerate_from}
 use Rattle.plain_lists.specs.Lists.{below}
+use Rattle.plain_lists.proofs.Each.{all_weaker}
+use Rattle.plain_lists.proofs.Below.{length-below, get_or-map-below, map-below-length}
+use Rattle.plain_lists.proofs.Filters.{filter-swap, filter-mapped, filter_whole, filter_none}
+use Rattle.std.proofs.lemmas.Simd.{map-map}
 use Rattle.sf_defs.specs.declared.Tag.{Tag}
 use Rattle.sf_defs.specs.declared.Ask.{Ask}
 use Rattle.sf_defs.specs.Asks.{Entry, after_ask, Replays, of_rank, on_word, IsOrderOf}
 use Rattle.sf_defs.specs.Rounds.{MeetsConditions, IsLegal, entries, rank_entries, printed_turns}
 use Rattle.sf_defs.specs.Script.{Event, queues, walk, words_after, fetching, words_after_all, fetched_by_rank, round_of, scripted}
 use Rattle.round_laws.specs.ReplayingOrders.{HasReplayingOrders, IsScheduleOf}
-use Rattle.round_laws.proofs.Lists.{all_weaker}
 use Rattle.round_laws.proofs.Shuffles.{same_rank}
-use Rattle.round_laws.proofs.Below.{length-below, get_or-map-below, map-below-length}
-use Rattle.round_laws.proofs.Entries.{numbered, of_rank-entries, filter-swap, filter-mapped, filter_whole, filter_none, map_map}
+use Rattle.round_laws.proofs.Entries.{numbered, of_rank-entries}
 use Rattle.round_laws.proofs.Legal.{legal-from-orders}
 
 -- the events of one rank
@@ -180,7 +182,7 @@ module _ (words : List ℕ) (asks : List (List Ask)) (events : List Event) (sche
 
   -- as many fetched values as asks
   fetched_lengths : map length (fetched_by_rank (length asks) (fetching words events)) ≡ map length asks
-  fetched_lengths = map_map length (λ rank. map (λ (e : Entry). e.got) (of_rank rank (fetching words events))) (below (length asks)) ∙ map-below-length _ length asks [] (λ k h. own_length k)
+  fetched_lengths = map-map length (λ rank. map (λ (e : Entry). e.got) (of_rank rank (fetching words events))) (below (length asks)) ∙ map-below-length _ length asks [] (λ k h. own_length k)
 
   -- the events are an order of the round's entries
   events_order : IsOrderOf (entries asks (fetched_by_rank (length asks) (fetching words events))) (fetching words events)

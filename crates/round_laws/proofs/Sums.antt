@@ -3,13 +3,13 @@ use Rattle.std.proofs.Common.{◌≡◌, ◌⊎◌, ℕ, ◌+◌, ◌^◌, ◌<�
 use Rattle.std.specs.List.{AllByRecursion}
 use Rattle.std.proofs.lemmas.Bool.{le-leb, lt-leb, lt-ltb, le-ltb, and_left, and_right, cases_lt}
 use Rattle.std.proofs.lemmas.List.Sums.{sum_by-cons}
+use Rattle.plain_lists.proofs.Each.{all_mapped}
 use Rattle.sf_defs.specs.declared.Op.TheVariants.{Load, Sum}
 use Rattle.sf_defs.specs.declared.Ask.{Ask}
 use Rattle.sf_defs.specs.Asks.{Entry, after_ask, Replays, on_word}
 use Rattle.sf_defs.specs.PrintedOrder.{kind_of}
 use Rattle.sf_defs.specs.Rounds.{Round, IsLegal, added, entries, asks_on, in_order}
 use Rattle.round_laws.specs.LastValues.{took}
-use Rattle.round_laws.proofs.Lists.{all_mapped}
 use Rattle.round_laws.proofs.Shuffles.{all_shuffled, sum_by-shuffled, count-shuffled}
 use Rattle.round_laws.proofs.Directions.{IsOfKind, after-sum}
 use Rattle.round_laws.proofs.Word.{asks_of}

@@ -7,6 +7,8 @@ use Rattle.std.proofs.lemmas.Bool.Decides.{Decides-eqb, Decides-ltb, Decides-and
 use Rattle.std.proofs.lemmas.List.{get_or_past}
 use lib.Pointwise.{pointwise_decides, bytes_decides}
 use Rattle.plain_lists.specs.Lists.{below, same_list}
+use Rattle.plain_lists.proofs.Each.{all_weaker}
+use Rattle.plain_lists.proofs.Filters.{filter_none}
 use Rattle.sf_defs.specs.declared.Op.{Op}
 use Rattle.sf_defs.specs.declared.Op.TheVariants.{Load, Sum, Min, Max, Or, And, Replace}
 use Rattle.sf_defs.specs.declared.Ask.{Ask}
@@ -14,9 +16,7 @@ use Rattle.sf_defs.specs.declared.Turn.{Turn}
 use Rattle.sf_defs.specs.Asks.{Entry, after_ask, Replays, does_replay}
 use Rattle.sf_defs.specs.PrintedOrder.{is_load, kind_of}
 use Rattle.sf_defs.specs.Rounds.{Round, same_op, added, SuitsWord, MeetsConditions, IsLegal, all_asks, asks_on, places_of, places_on, in_order, printed_turns, has_one_kind, has_one_replace, sums_do_fit, has_plain_loads, suits_word, meets_conditions, has_each_once, same_turn, is_printed, does_replay_on, is_legal}
-use Rattle.round_laws.proofs.Lists.{all_weaker}
 use Rattle.round_laws.proofs.Word.{load-is}
-use Rattle.round_laws.proofs.Entries.{filter_none}
 
 -- ---- tests of lists and numbers
 

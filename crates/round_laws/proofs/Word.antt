@@ -2,13 +2,13 @@
 use Rattle.std.proofs.Common.{◌≡◌, ◌⊎◌, ℕ, ◌+◌, ◌^◌, ◌<◌, ◌≤◌, Bool, true, false, cond, List, [], ◌∷◌, map, refl, sym, ap, subst, ◌∙◌, inl, inr, ⊎_elim}
 use Rattle.std.specs.List.{AllByRecursion}
 use Rattle.std.proofs.lemmas.Bool.{false≢true}
+use Rattle.plain_lists.proofs.Each.{all_map, all_mapped}
 use Rattle.sf_defs.specs.declared.Op.{Op}
 use Rattle.sf_defs.specs.declared.Op.TheVariants.{Load, Sum, Min, Max, Or, And, Replace}
 use Rattle.sf_defs.specs.declared.Ask.{Ask}
 use Rattle.sf_defs.specs.Asks.{Entry, Replays, of_rank, IsOrderOf, HasOwnOrder, IsRising}
 use Rattle.sf_defs.specs.PrintedOrder.{is_load, kind_of, stands_before, sorted_by, printed_order}
 use Rattle.sf_defs.specs.Rounds.{same_op, added, SuitsWord}
-use Rattle.round_laws.proofs.Lists.{all_map, all_mapped}
 use Rattle.round_laws.proofs.Comparison.{total_printed, strict_by_rank}
 use Rattle.round_laws.proofs.Shuffles.{all_shuffled, sum_by-shuffled}
 use Rattle.round_laws.proofs.Sorting.{sorted_by-shuffled, sorted_by-of_rank}

@@ -8,10 +8,12 @@ use Rattle.std.proofs.lemmas.List.Sums.{length-filter, sum_by-cons}
 use Rattle.mesh_defs.specs.Mesh.{Cell}
 use Rattle.input_defs.specs.Content.{Node, Element, Content}
 use Rattle.plain_lists.specs.Lists.{differ_as_sets}
+use Rattle.plain_lists.proofs.Each.{all_weaker, all_both, all_from, all_map, all_at, all_filter}
+use Rattle.plain_lists.proofs.Finding.{any_map, any_weaker}
+use Rattle.plain_lists.proofs.Filters.{map_map_same, filter_passing, count-both}
+use Rattle.plain_lists.proofs.Sorted.{differ_as_sets-map}
 use Rattle.triangle_defs.specs.Triangles.{is_used, vertices_of, vertex_of, cell_of, triangle_mesh}
 use Rattle.triangle_laws.specs.TriangleMesh.{IsTriangle, IsTriangleMesh, IsTriangleElement, AreNumbered, IsTriangleContent, uses, IsInUse}
-use Rattle.mesh_laws.proofs.Places.{all_weaker, all_both, all_from, all_map, all_at, all_filter, any_map, any_weaker, map_map_same, filter_passing, count-both}
-use Rattle.mesh_laws.proofs.Monotone.{differ_as_sets-map}
 
 -- ---- numbered nodes
 

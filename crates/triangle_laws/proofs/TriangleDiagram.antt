@@ -9,6 +9,10 @@ use Rattle.std.proofs.lemmas.List.Folds.{list_any-append}
 use Rattle.mesh_defs.specs.declared.Poly.TheVariants.{Vertex, Segment, Triangle}
 use Rattle.mesh_defs.specs.declared.ConeEntry.{ConeEntry}
 use Rattle.plain_lists.specs.Lists.{below, sorted, picked, same_list, differ_as_sets}
+use Rattle.plain_lists.proofs.Each.{all_weaker, all_from, all_append, all_map, all_at, all_flat_map, all_in_flat_map, all_enumerated}
+use Rattle.plain_lists.proofs.Filters.{map_same, map_map_same, flat_map_same, length-flat_map_three, count_whole, count_nothing, count-append}
+use Rattle.plain_lists.proofs.Finding.{find-append_found, find-append_none, position-append_found, position-append_none}
+use Rattle.plain_lists.proofs.Below.{length-below}
 use Rattle.mesh_defs.specs.Tables.{Facet, dim_of, facets_of}
 use Rattle.mesh_defs.specs.Orientation.{relative}
 use Rattle.mesh_defs.specs.Mesh.{Mesh, Cell, placed_cells}
@@ -17,11 +21,10 @@ use Rattle.mesh_defs.specs.Diagram.{firsts, stratum, strata, chart, place_in, se
 use Rattle.text_defs.specs.Text.{alone, number_of}
 use Rattle.mesh_defs.specs.Sights.{IsEdgeEntry, IsEdgeSight, edge_sight, entry_among, points_differ}
 use Rattle.triangle_laws.specs.TriangleMesh.{cell_cover, edge_cover, triangle_diagram, IsTriangle, IsTriangleMesh, whole_sight, edge_sights_of, edge_sights, triangle_points}
-use Rattle.mesh_laws.proofs.Places.{all_weaker, all_from, all_append, all_map, all_at, all_flat_map, all_in_flat_map, all_enumerated, map_same, map_map_same, flat_map_same, find-append_found, find-append_none, position-append_found, position-append_none, length-flat_map_three, count_whole, count_nothing, count-append}
 use Rattle.mesh_laws.proofs.Firsts.{shown_among_firsts, find-firsts, firsts-fresh, firsts-all, firsts-length}
 use Rattle.mesh_laws.proofs.Turns.{relative-vertex}
 use Rattle.mesh_laws.proofs.Entries.{entry_among-bounds}
-use Rattle.mesh_laws.proofs.Containing.{length-below, shows-vertex, chart-all}
+use Rattle.mesh_laws.proofs.Containing.{shows-vertex, chart-all}
 
 -- ---- the sights of triangles
 

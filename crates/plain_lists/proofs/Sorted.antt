@@ -1,9 +1,23 @@
--- Sorting commutes with maps that keep the order, and so do sets of numbers.
-use Rattle.std.proofs.Common.{◌≡◌, ℕ, ◌<◌, Bool, true, false, cond, not, ◌&&◌, ◌||◌, ◌==◌, nat_le, List, [], ◌∷◌, map, refl, ap, ap₂, ◌∙◌, ⊎_elim, arith}
+-- Equal lists, sorted lists and sets of numbers: sorting commutes with maps that keep the order.
+use Rattle.std.proofs.Common.{◌≡◌, ℕ, ◌<◌, Bool, true, false, cond, not, ◌&&◌, ◌||◌, ◌==◌, nat_le, List, [], ◌∷◌, map, refl, sym, ap, ap₂, ◌∙◌, subst, ⊎_elim, arith}
 use Rattle.std.specs.List.{list_any, AllByRecursion}
+use Rattle.std.specs.Cmp.Lexicographic.{same_text}
 use Rattle.std.proofs.lemmas.Bool.{eqb-true, eq-eqb, leb-true, le-leb, cases_lt}
 use Rattle.plain_lists.specs.Lists.{same_list, inserted, sorted, differ_as_sets}
-use Rattle.mesh_laws.proofs.Firsts.{same_tests}
+use Rattle.plain_lists.proofs.Finding.{same_tests}
+
+-- ---- equal lists
+
+-- a list is the same as itself
+pub same_list-self : (xs : List ℕ) → same_list xs xs ≡ true
+same_list-self [] = refl
+same_list-self (x ∷ xs) = rw (eq-eqb x x refl, same_list-self xs)
+
+-- equal lists are equal the other way round
+pub same_list-turn : (xs ys : List ℕ) → same_list xs ys ≡ true → same_list ys xs ≡ true
+same_list-turn xs ys h = let e = same_text xs ys (sym h) in subst (λ l. same_list l xs ≡ true) e (same_list-self xs)
+
+-- ---- sorted lists
 
 -- what all numbers have, they have in order
 pub all_inserted : (P : ℕ → Type 0) (x : ℕ) (ys : List ℕ) → P x → AllByRecursion P ys → AllByRecursion P (inserted x ys)

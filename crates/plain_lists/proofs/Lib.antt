@@ -1,0 +1,6 @@
+pub mod Each
+pub mod Filters
+pub mod Finding
+pub mod Below
+pub mod Sorted
+pub mod Least
