@@ -1,7 +1,7 @@
 pub mod Entries
 pub mod Rows
 pub mod Listed
-pub mod Turns
+pub mod Symmetries
 pub mod Composition
 pub mod Acting
 pub mod Settling

@@ -11,21 +11,14 @@ use Rattle.std.proofs.lemmas.List.Sums.{AllPass-from_list_all, list_all-from_All
 use Rattle.std.proofs.lemmas.List.Folds.{Any-from_list_any, list_any_none}
 use Rattle.std.proofs.lemmas.List.Elements.{All-contains, All-from_get_or, recursion_from_All}
 use Rattle.plain_lists.specs.Lists.{below, same_list}
+use Rattle.plain_lists.proofs.Below.{passes-below, length-below, get_or-below}
 use Rattle.poly_orient.specs.Rules.{IsOrder, AreRising}
-use Rattle.poly_orient.proofs.Rows.{below_all}
-use Rattle.poly_orient.proofs.Grouping.{length-below, get_or-below}
 
 -- ---- tests of lists, and what they mean
 
 -- a test that passes at all rows passes at each
 pub passes_at : (test : List ℕ → Bool) (rows : List (List ℕ)) (corners : List ℕ) → list_all test rows ≡ true → Contains rows corners → test corners ≡ true
 passes_at test rows corners all has = All-contains (λ row. test row ≡ true) rows corners (AllPass-from_list_all test rows all) has
-
--- what passes at the numbers below n one by one
-pub all_below : (f : ℕ → Bool) (n : ℕ) → ((k : ℕ) → k < n → f k ≡ true) → list_all f (below n) ≡ true
-all_below f n each =
-    list_all-from_AllPass f (below n)
-    (λ k d lt. let inside : k < n = omega (arith, lt, length-below n) in ap f (get_or-below n k d inside) ∙ each k inside)
 
 -- the numbers below n in some order
 abbrev pub is_order : ℕ → List ℕ → Bool
@@ -41,8 +34,8 @@ IsOrder-tested n corners tested =
       all = length_is;
       in_range = λ k d lt. ltb-true _ _ (AllPass-from_list_all (λ c. ltb c n) corners parts.0 k d lt);
       differ = λ i j d lt inside same.
-          let row = below_all (λ j. list_all (λ i. not (get_or corners i 0 == get_or corners j 0)) (below j)) n j parts.1 (omega (arith, inside, length_is)) in
-          let apart = not-true _ (below_all (λ i. not (get_or corners i 0 == get_or corners j 0)) j i row lt) in
+          let row = passes-below (λ j. list_all (λ i. not (get_or corners i 0 == get_or corners j 0)) (below j)) n j parts.1 (omega (arith, inside, length_is)) in
+          let apart = not-true _ (passes-below (λ i. not (get_or corners i 0 == get_or corners j 0)) j i row lt) in
           false≢true (sym apart ∙ eq-eqb _ _ (get_or_default corners i 0 d (omega (arith, lt, inside)) ∙ same ∙ get_or_default corners j d 0 inside));
     }
 

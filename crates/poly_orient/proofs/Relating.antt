@@ -7,17 +7,19 @@ use Rattle.std.proofs.lemmas.Bool.{cases_lt, cases_Bool, eq-eqb, ne_eqb, lt-ltb,
 use Rattle.std.proofs.lemmas.List.{get_or-map, map-append, take_more}
 use Rattle.std.proofs.lemmas.List.Elements.{All-head, All-tail, Contains-get_or}
 use Rattle.std.proofs.lemmas.List.Sums.{position_or_len_is}
+use Rattle.std.proofs.lemmas.List.Folds.{list_any_none}
 use Rattle.mesh_defs.specs.declared.Poly.{Poly}
 use Rattle.plain_lists.specs.Lists.{below, same_list, picked}
+use Rattle.plain_lists.proofs.Finding.{find-none}
 use Rattle.mesh_defs.specs.Tables.{corner_count}
 use Rattle.mesh_defs.specs.Orientation.{orientations, corners_under, act, relative}
-use Rattle.poly_orient.specs.declared.turn.Turn.{Turn}
+use Rattle.poly_orient.specs.declared.symmetry.Symmetry.{Symmetry}
 use Rattle.poly_orient.specs.Group.{IsOrientation, Differ}
-use Rattle.poly_orient.specs.Turning.{turn_of, number_of, corners_turned, second, telling, settled}
-use Rattle.poly_orient.proofs.Listed.{length_corners, corners_turned-of, places_in}
-use Rattle.poly_orient.proofs.Turns.{turn-of_orientation, number_of-turn, turn_of-number}
+use Rattle.poly_orient.specs.Symmetries.{symmetry_of, orientation_of, corners_listed, second, telling_place, settle}
+use Rattle.poly_orient.proofs.Listed.{length_corners, corners_listed-of, places_in}
+use Rattle.poly_orient.proofs.Symmetries.{symmetry-of_orientation, orientation_of-symmetry, symmetry_of-number}
 use Rattle.std.proofs.lemmas.Option.{same_Some, none-some}
-use Rattle.poly_orient.proofs.Settling.{settled-corners}
+use Rattle.poly_orient.proofs.Settling.{settle-corners}
 use Rattle.poly_orient.proofs.Acting.{corner_below}
 
 -- ---- lists whose entries differ
@@ -53,18 +55,12 @@ find-only : {X : Type 0} (test : X → Bool) (xs : List X) (x : X) → Contains 
 find-only test [] x (k, lt, here) passes only = absurd (omega (arith, lt))
 find-only {X} test (y ∷ ys) x has passes only = elim (cases_Bool (test y)) [
   | inl passed ↦ cond-true (test y) (Some y) (find test ys) passed ∙ ap Some (All-head (λ y. test y ≡ true → y ≡ x) y ys only passed)
-  | inr failed ↦ cond-false (test y) (Some y) (find test ys) failed ∙ find-only test ys x (behind has failed) passes (All-tail (λ y. test y ≡ true → y ≡ x) y ys only)
+  | inr failed ↦ cond-false (test y) (Some y) (find test ys) failed ∙ find-only test ys x (later has failed) passes (All-tail (λ y. test y ≡ true → y ≡ x) y ys only)
 ]
   where
-    behind : Contains (y ∷ ys) x → test y ≡ false → Contains ys x
-    behind (zero, lt, here) failed = absurd (false≢true (sym failed ∙ ap test here ∙ passes))
-    behind (suc k, lt, here) failed = (k, omega (arith, lt), here)
-
--- where nothing passes nothing is found
-find-none : {X : Type 0} (test : X → Bool) (xs : List X) → All (λ y. test y ≡ false) xs → find test xs ≡ None
-find-none test [] none = refl
-find-none test (y ∷ ys) none =
-    cond-false (test y) (Some y) (find test ys) (All-head (λ y. test y ≡ false) y ys none) ∙ find-none test ys (All-tail (λ y. test y ≡ false) y ys none)
+    later : Contains (y ∷ ys) x → test y ≡ false → Contains ys x
+    later (zero, lt, here) failed = absurd (false≢true (sym failed ∙ ap test here ∙ passes))
+    later (suc k, lt, here) failed = (k, omega (arith, lt), here)
 
 -- ---- acting
 
@@ -72,26 +68,26 @@ find-none test (y ∷ ys) none =
 act-entry : (p : Poly) (o : ℤ) (from : List ℕ) (k : ℕ) → IsOrientation p o → k < corner_count p → get_or (act p o from) k 0 ≡ get_or from (get_or (corners_under p o) k 0) 0
 unfolding act
 act-entry p o from k has in_range =
-    get_or-map (λ i. get_or from i 0) (corners_under p o) k 0 0 (omega (arith, in_range, ap length (sym (corners_turned-of p o)), length_corners p (turn_of o) (turn-of_orientation p o has)))
+    get_or-map (λ i. get_or from i 0) (corners_under p o) k 0 0 (omega (arith, in_range, ap length (sym (corners_listed-of p o)), length_corners p (symmetry_of o) (symmetry-of_orientation p o has)))
 
 -- a vertex that stands at a place under an orientation is found at the corner that the orientation has there
 pub found-under : (p : Poly) (o : ℤ) (from to : List ℕ) (k : ℕ) → IsOrientation p o → length from ≡ corner_count p → Differ from → act p o from ≡ to → k < corner_count p
-    → position (λ v. v == get_or to k 0) from ≡ Some (get_or (corners_turned p (turn_of o)) k 0)
+    → position (λ v. v == get_or to k 0) from ≡ Some (get_or (corners_listed p (symmetry_of o)) k 0)
 found-under p o from to k has size differ leads in_range =
     let corner = get_or (corners_under p o) k 0 in
     let entry : get_or from corner 0 ≡ get_or to k 0 = sym (act-entry p o from k has in_range) ∙ ap (λ list. get_or list k 0) leads in
     let inside : corner < length from = omega (arith, size, corner_below p o k has in_range) in
-    ap (λ w. position (λ v. v == w) from) (sym entry) ∙ position-entry from corner differ inside ∙ ap (λ corners. Some (get_or corners k 0)) (sym (corners_turned-of p o))
+    ap (λ w. position (λ v. v == w) from) (sym entry) ∙ position-entry from corner differ inside ∙ ap (λ corners. Some (get_or corners k 0)) (sym (corners_listed-of p o))
 
 -- different orientations list differing entries differently
 pub act-apart : (p : Poly) (o other : ℤ) (from : List ℕ) → IsOrientation p o → IsOrientation p other → length from ≡ corner_count p → Differ from → act p o from ≡ act p other from → o ≡ other
 act-apart p o other from has has_other size differ same =
-    let one : (k : ℕ) → k < corner_count p → get_or (corners_turned p (turn_of o)) k 0 ≡ get_or (corners_turned p (turn_of other)) k 0 =
+    let one : (k : ℕ) → k < corner_count p → get_or (corners_listed p (symmetry_of o)) k 0 ≡ get_or (corners_listed p (symmetry_of other)) k 0 =
     λ k lt. same_Some _ _ (sym (found-under p o from (act p other from) k has size differ same lt) ∙ found-under p other from (act p other from) k has_other size differ refl lt) in
     let at = places_in p in
-    let turns : turn_of o ≡ turn_of other =
-    sym (settled-corners p (turn_of o) (turn-of_orientation p o has)) ∙ (λ j. settled p (one 0 at.0 j) (one (second p) at.1 j) (one (telling p) at.2 j)) ∙ settled-corners p (turn_of other) (turn-of_orientation p other has_other) in
-    sym (number_of-turn o) ∙ ap number_of turns ∙ number_of-turn other
+    let symmetries : symmetry_of o ≡ symmetry_of other =
+    sym (settle-corners p (symmetry_of o) (symmetry-of_orientation p o has)) ∙ (λ j. settle p (one 0 at.0 j) (one (second p) at.1 j) (one (telling_place p) at.2 j)) ∙ settle-corners p (symmetry_of other) (symmetry-of_orientation p other has_other) in
+    sym (orientation_of-symmetry o) ∙ ap orientation_of symmetries ∙ orientation_of-symmetry other
 
 -- ---- the orientation that leads from one list to another
 
@@ -106,16 +102,19 @@ relative-leads p o from to has size differ leads =
 pub relative-none : (p : Poly) (from to : List ℕ) → ((o : ℤ) → IsOrientation p o → act p o from ≢ to) → relative p from to ≡ None
 unfolding relative
 relative-none p from to none =
-    find-none (λ z. same_list (act p z from) to) (orientations p)
+    find-none leads_there (orientations p) (list_any_none leads_there (orientations p)
     (λ k d lt. elim (cases_Bool (same_list (act p (get_or (orientations p) k d) from) to)) [
       | inl passed ↦ absurd (none _ (Contains-get_or (orientations p) k d lt) (same_text _ _ (sym passed)))
       | inr failed ↦ failed
-    ])
+    ]))
+  where
+    leads_there : ℤ → Bool
+    leads_there z = same_list (act p z from) to
 
--- acting by the number of a turn
-pub act-number_of : (p : Poly) (t : Turn) (from : List ℕ) → act p (number_of t) from ≡ picked from (corners_turned p t)
+-- acting by the number of a symmetry
+pub act-orientation_of : (p : Poly) (t : Symmetry) (from : List ℕ) → act p (orientation_of t) from ≡ picked from (corners_listed p t)
 unfolding act
-act-number_of p t from = ap (picked from) (sym (corners_turned-of p (number_of t)) ∙ ap (corners_turned p) (turn_of-number t))
+act-orientation_of p t from = ap (picked from) (sym (corners_listed-of p (orientation_of t)) ∙ ap (corners_listed p) (symmetry_of-number t))
 
 -- where a vertex of the one list is not found in the other, no orientation leads there
 pub none-lost : (p : Poly) (from to : List ℕ) (k : ℕ) → length from ≡ corner_count p → Differ from → k < corner_count p → position (λ v. v == get_or to k 0) from ≡ None
@@ -123,16 +122,16 @@ pub none-lost : (p : Poly) (from to : List ℕ) (k : ℕ) → length from ≡ co
 none-lost p from to k size differ in_range lost o has leads = none-some _ (sym lost ∙ found-under p o from to k has size differ leads in_range)
 
 -- an orientation that leads there is the one that three found places settle
-pub settled-found : (p : Poly) (o : ℤ) (from to : List ℕ) (a b c : ℕ) → IsOrientation p o → length from ≡ corner_count p → Differ from → act p o from ≡ to
-    → position (λ v. v == get_or to 0 0) from ≡ Some a → position (λ v. v == get_or to (second p) 0) from ≡ Some b → position (λ v. v == get_or to (telling p) 0) from ≡ Some c
-    → settled p a b c ≡ turn_of o
-settled-found p o from to a b c has size differ leads at_first at_second at_telling =
-    let corner : (k i : ℕ) → k < corner_count p → position (λ v. v == get_or to k 0) from ≡ Some i → i ≡ get_or (corners_turned p (turn_of o)) k 0 =
+pub settle-found : (p : Poly) (o : ℤ) (from to : List ℕ) (a b c : ℕ) → IsOrientation p o → length from ≡ corner_count p → Differ from → act p o from ≡ to
+    → position (λ v. v == get_or to 0 0) from ≡ Some a → position (λ v. v == get_or to (second p) 0) from ≡ Some b → position (λ v. v == get_or to (telling_place p) 0) from ≡ Some c
+    → settle p a b c ≡ symmetry_of o
+settle-found p o from to a b c has size differ leads at_first at_second at_telling =
+    let corner : (k i : ℕ) → k < corner_count p → position (λ v. v == get_or to k 0) from ≡ Some i → i ≡ get_or (corners_listed p (symmetry_of o)) k 0 =
     λ k i lt at. same_Some _ _ (sym at ∙ found-under p o from to k has size differ leads lt) in
     let at = places_in p in
-    (λ j. settled p (corner 0 a at.0 at_first j) (corner (second p) b at.1 at_second j) (corner (telling p) c at.2 at_telling j)) ∙ settled-corners p (turn_of o) (turn-of_orientation p o has)
+    (λ j. settle p (corner 0 a at.0 at_first j) (corner (second p) b at.1 at_second j) (corner (telling_place p) c at.2 at_telling j)) ∙ settle-corners p (symmetry_of o) (symmetry-of_orientation p o has)
 
--- acting lists the corners of the turn
-pub act-turn_of : (p : Poly) (o : ℤ) (from : List ℕ) → act p o from ≡ picked from (corners_turned p (turn_of o))
+-- acting lists the corners of the symmetry
+pub act-symmetry_of : (p : Poly) (o : ℤ) (from : List ℕ) → act p o from ≡ picked from (corners_listed p (symmetry_of o))
 unfolding act
-act-turn_of p o from = ap (picked from) (sym (corners_turned-of p o))
+act-symmetry_of p o from = ap (picked from) (sym (corners_listed-of p o))

@@ -4,12 +4,13 @@ use Rattle.std.specs.List.{list_all}
 use Rattle.std.proofs.lemmas.Bool.{and_parts, ltb-true}
 use Rattle.std.proofs.lemmas.List.Folds.{list_all-append}
 use Rattle.plain_lists.specs.Lists.{below}
+use Rattle.plain_lists.proofs.Below.{passes-below}
 use Rattle.mesh_defs.specs.declared.Poly.{Poly}
 use Rattle.mesh_defs.specs.declared.Poly.TheVariants.{Vertex, Segment, Triangle, Quad, Tet, Hex}
 use Rattle.mesh_defs.specs.Orientation.{rotations, reflections}
-use Rattle.poly_orient.specs.declared.turn.Turn.{Turn}
-use Rattle.poly_orient.specs.declared.turn.Turn.TheVariants.{Rotation, Reflection}
-use Rattle.poly_orient.specs.Turning.{corners_turned, IsTurn}
+use Rattle.poly_orient.specs.declared.symmetry.Symmetry.{Symmetry}
+use Rattle.poly_orient.specs.declared.symmetry.Symmetry.TheVariants.{Rotation, Reflection}
+use Rattle.poly_orient.specs.Symmetries.{corners_listed, IsSymmetry}
 use Rattle.poly_orient.specs.declared.tables.TheConstants.{TRIANGLE_ROTATIONS, TRIANGLE_REFLECTIONS, QUAD_ROTATIONS, QUAD_REFLECTIONS, TET_ROTATIONS, TET_REFLECTIONS, HEX_ROTATIONS, HEX_REFLECTIONS}
 
 abbrev pub rotation_table : Poly → List (List ℕ)
@@ -47,36 +48,29 @@ reflections_are Quad = refl
 reflections_are Tet = refl
 reflections_are Hex = refl
 
--- the corners listed under this turn, by the tables
-abbrev pub listed : Poly → Turn → List ℕ
+-- the corners listed under this symmetry, by the tables
+abbrev pub listed : Poly → Symmetry → List ℕ
 listed p (Rotation o) = get_or (rotation_table p) o []
 listed p (Reflection s) = get_or (reflection_table p) s []
 
--- the polytope has this turn
-abbrev pub is_turn : Poly → Turn → Bool
-is_turn p (Rotation o) = ltb o (length (rotation_table p))
-is_turn p (Reflection s) = ltb s (length (reflection_table p))
+-- the polytope has this symmetry
+abbrev pub is_symmetry : Poly → Symmetry → Bool
+is_symmetry p (Rotation o) = ltb o (length (rotation_table p))
+is_symmetry p (Reflection s) = ltb s (length (reflection_table p))
 
--- a test passes at all turns of a polytope
-abbrev pub turns_pass : Poly → (Turn → Bool) → Bool
-turns_pass p f = list_all (λ o. f (Rotation o)) (below (length (rotation_table p))) && list_all (λ s. f (Reflection s)) (below (length (reflection_table p)))
+-- a test passes at all symmetries of a polytope
+abbrev pub symmetries_pass : Poly → (Symmetry → Bool) → Bool
+symmetries_pass p f = list_all (λ o. f (Rotation o)) (below (length (rotation_table p))) && list_all (λ s. f (Reflection s)) (below (length (reflection_table p)))
 
--- what holds of the numbers below n one by one
-pub below_all : (f : ℕ → Bool) (n k : ℕ) → list_all f (below n) ≡ true → k < n → f k ≡ true
-below_all f zero k all lt = absurd (omega (arith, lt))
-below_all f (suc n) k all lt =
-    let parts = and_parts (list_all f (below n)) (list_all f (n ∷ [])) (sym (list_all-append f (below n) (n ∷ [])) ∙ all) in
-    below_more (λ k. f k ≡ true) n (λ k h. below_all f n k parts.0 h) (and_parts (f n) true parts.1).0 k (omega (arith, lt))
+-- what passes at all symmetries passes at each
+pub at_symmetry : (p : Poly) (f : Symmetry → Bool) → symmetries_pass p f ≡ true → (t : Symmetry) → IsSymmetry p t → f t ≡ true
+at_symmetry p f all (Rotation o) h = passes-below (λ o. f (Rotation o)) (length (rotation_table p)) o (and_parts _ _ all).0 (subst (λ (rows : List (List ℕ)). o < length rows) (rotations_are p) h)
+at_symmetry p f all (Reflection s) h = passes-below (λ s. f (Reflection s)) (length (reflection_table p)) s (and_parts _ _ all).1 (subst (λ (rows : List (List ℕ)). s < length rows) (reflections_are p) h)
 
--- what passes at all turns passes at each
-pub at_turn : (p : Poly) (f : Turn → Bool) → turns_pass p f ≡ true → (t : Turn) → IsTurn p t → f t ≡ true
-at_turn p f all (Rotation o) h = below_all (λ o. f (Rotation o)) (length (rotation_table p)) o (and_parts _ _ all).0 (subst (λ (rows : List (List ℕ)). o < length rows) (rotations_are p) h)
-at_turn p f all (Reflection s) h = below_all (λ s. f (Reflection s)) (length (reflection_table p)) s (and_parts _ _ all).1 (subst (λ (rows : List (List ℕ)). s < length rows) (reflections_are p) h)
-
-pub listed-is : (p : Poly) (t : Turn) → listed p t ≡ corners_turned p t
+pub listed-is : (p : Poly) (t : Symmetry) → listed p t ≡ corners_listed p t
 listed-is p (Rotation o) = ap (λ rows. get_or rows o []) (sym (rotations_are p))
 listed-is p (Reflection s) = ap (λ rows. get_or rows s []) (sym (reflections_are p))
 
-pub turn_is : (p : Poly) (t : Turn) → is_turn p t ≡ true → IsTurn p t
-turn_is p (Rotation o) h = subst (λ (rows : List (List ℕ)). o < length rows) (sym (rotations_are p)) (ltb-true _ _ h)
-turn_is p (Reflection s) h = subst (λ (rows : List (List ℕ)). s < length rows) (sym (reflections_are p)) (ltb-true _ _ h)
+pub symmetry_is : (p : Poly) (t : Symmetry) → is_symmetry p t ≡ true → IsSymmetry p t
+symmetry_is p (Rotation o) h = subst (λ (rows : List (List ℕ)). o < length rows) (sym (rotations_are p)) (ltb-true _ _ h)
+symmetry_is p (Reflection s) h = subst (λ (rows : List (List ℕ)). s < length rows) (sym (reflections_are p)) (ltb-true _ _ h)

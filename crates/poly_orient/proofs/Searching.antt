@@ -1,4 +1,4 @@
--- All lists whose entries pass a test against those before them are found by putting entry behind entry.
+-- All lists whose entries pass a test against those before them are found by putting entry after entry.
 use Rattle.std.proofs.Common.{◌≡◌, ℕ, zero, suc, ◌<◌, ◌≤◌, true, Bool, List, [], ◌∷◌, ◌++◌, length, take, get_or, map, refl, sym, ap, ◌∙◌, subst, inl, inr, lit<, add-one, arith}
 use Rattle.std.specs.Prelude.{flat_map, filter}
 use Rattle.std.specs.List.{Contains}
@@ -6,7 +6,7 @@ use Rattle.std.proofs.lemmas.Bool.{cond-true, cond-false, cases_Bool}
 use Rattle.std.proofs.lemmas.List.{get_or-map, length-map, take_more}
 use Rattle.std.proofs.lemmas.List.Elements.{Contains-append_left, Contains-append_right}
 use Rattle.plain_lists.specs.Lists.{below}
-use Rattle.poly_orient.proofs.Grouping.{length-below, get_or-below}
+use Rattle.plain_lists.proofs.Below.{length-below, get_or-below}
 
 -- ---- what contains what
 

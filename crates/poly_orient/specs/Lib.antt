@@ -1,3 +1,3 @@
 pub mod Group
-pub mod Turning
+pub mod Symmetries
 pub mod Rules

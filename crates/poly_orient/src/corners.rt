@@ -2,35 +2,35 @@
 
 ghost use Rattle.std.specs.Prelude.{◌≡◌, ◌<◌, slice_index};
 ghost use Rattle.mesh_defs.specs.Tables.{corner_count};
-ghost use Rattle.poly_orient.specs.Turning.{corners_turned, IsTurn, place, second};
+ghost use Rattle.poly_orient.specs.Symmetries.{corners_listed, IsSymmetry, place, second};
 
 use crate::tables::{
     HEX_NUMBERS, HEX_REFLECTIONS, HEX_ROTATIONS, QUAD_REFLECTIONS, QUAD_ROTATIONS, TET_NUMBERS,
     TET_REFLECTIONS, TET_ROTATIONS, TRIANGLE_REFLECTIONS, TRIANGLE_ROTATIONS,
 };
-use crate::turn::Turn;
+use crate::symmetry::Symmetry;
 use poly_tables::Poly;
 
 /// The corner at place k.
 #[tactic(auto, unfolding(mesh_defs::specs::Orientation::rotations, mesh_defs::specs::Orientation::reflections))]
-pub fn corner(p: Poly, turn: Turn, k: usize) -> usize
-    requires orientation { IsTurn p turn }
+pub fn corner(p: Poly, symmetry: Symmetry, k: usize) -> usize
+    requires orientation { IsSymmetry p symmetry }
     requires place { k < corner_count p }
-    ensures corner { result ≡ slice_index (corners_turned p turn) k }
+    ensures corner { result ≡ slice_index (corners_listed p symmetry) k }
     ensures in_range { result < corner_count p }
 {
-    match (p, turn) {
+    match (p, symmetry) {
         (Poly::Vertex, _) => 0,
-        (Poly::Segment, Turn::Rotation(_)) => k,
-        (Poly::Segment, Turn::Reflection(_)) => 1 - k,
-        (Poly::Triangle, Turn::Rotation(o)) => TRIANGLE_ROTATIONS[o][k] as usize,
-        (Poly::Triangle, Turn::Reflection(s)) => TRIANGLE_REFLECTIONS[s][k] as usize,
-        (Poly::Quad, Turn::Rotation(o)) => QUAD_ROTATIONS[o][k] as usize,
-        (Poly::Quad, Turn::Reflection(s)) => QUAD_REFLECTIONS[s][k] as usize,
-        (Poly::Tet, Turn::Rotation(o)) => TET_ROTATIONS[o][k] as usize,
-        (Poly::Tet, Turn::Reflection(s)) => TET_REFLECTIONS[s][k] as usize,
-        (Poly::Hex, Turn::Rotation(o)) => HEX_ROTATIONS[o][k] as usize,
-        (Poly::Hex, Turn::Reflection(s)) => HEX_REFLECTIONS[s][k] as usize,
+        (Poly::Segment, Symmetry::Rotation(_)) => k,
+        (Poly::Segment, Symmetry::Reflection(_)) => 1 - k,
+        (Poly::Triangle, Symmetry::Rotation(o)) => TRIANGLE_ROTATIONS[o][k] as usize,
+        (Poly::Triangle, Symmetry::Reflection(s)) => TRIANGLE_REFLECTIONS[s][k] as usize,
+        (Poly::Quad, Symmetry::Rotation(o)) => QUAD_ROTATIONS[o][k] as usize,
+        (Poly::Quad, Symmetry::Reflection(s)) => QUAD_REFLECTIONS[s][k] as usize,
+        (Poly::Tet, Symmetry::Rotation(o)) => TET_ROTATIONS[o][k] as usize,
+        (Poly::Tet, Symmetry::Reflection(s)) => TET_REFLECTIONS[s][k] as usize,
+        (Poly::Hex, Symmetry::Rotation(o)) => HEX_ROTATIONS[o][k] as usize,
+        (Poly::Hex, Symmetry::Reflection(s)) => HEX_REFLECTIONS[s][k] as usize,
     }
 }
 

@@ -5,11 +5,11 @@ ghost use Rattle.plain_lists.specs.Lists.{picked};
 ghost use Rattle.mesh_defs.specs.Tables.{corner_count, facets_of, facet_at};
 ghost use Rattle.mesh_defs.specs.Orientation.{act};
 ghost use Rattle.poly_orient.specs.Group.{IsOrientation, facet_under};
-ghost use Rattle.poly_orient.specs.Turning.{IsTurn, facet_along, place_along, begun_behind, facet_corner_turned, facet_second, facet_from};
+ghost use Rattle.poly_orient.specs.Symmetries.{IsSymmetry, facet_along, place_along, start_after, facet_corner_listed, facet_second, facet_from};
 
 use crate::corners::corner;
 use crate::tables::{HEX_FACETS_ALONG, HEX_PLACES_ALONG, TET_FACETS_ALONG, TET_PLACES_ALONG};
-use crate::turn::{Turn, number_of, turn_of};
+use crate::symmetry::{Symmetry, orientation_of, symmetry_of};
 use poly_tables::{Poly, facet_corner};
 
 /// The facet around which its own sense leads from corner `a` to corner `b`, by that of the edges of
@@ -40,10 +40,10 @@ fn place_along(p: Poly, a: usize, b: usize) -> usize
     }
 }
 
-/// The reflection of a facet that begins behind this place.
-fn begun_behind(p: Poly, place: usize) -> usize
+/// The reflection of a facet that begins after this place.
+fn start_after(p: Poly, place: usize) -> usize
     requires { place < 4 }
-    ensures { result ≡ begun_behind p place }
+    ensures { result ≡ start_after p place }
 {
     match p {
         Poly::Tet => (place + 1) % 3,
@@ -62,36 +62,37 @@ fn facet_second(p: Poly) -> usize
     }
 }
 
-/// The corner at place j of facet k, under a turn of the whole.
-fn facet_corner_turned(p: Poly, turn: Turn, k: usize, j: usize) -> usize
-    requires turn { IsTurn p turn }
+/// The corner at place j of facet k, under a symmetry of the whole.
+fn facet_corner_listed(p: Poly, symmetry: Symmetry, k: usize, j: usize) -> usize
+    requires symmetry { IsSymmetry p symmetry }
     requires facet { k < length (facets_of p) }
     requires place { j < length (facet_at p k).corners }
-    ensures corner { result ≡ facet_corner_turned p turn k j }
+    ensures corner { result ≡ facet_corner_listed p symmetry k j }
     ensures in_range { result < corner_count p }
 {
-    corner(p, turn, facet_corner(p, k, j))
+    corner(p, symmetry, facet_corner(p, k, j))
 }
 
-/// The facet that stands where two of its corners do, one behind the other, and its own turn.
-#[tactic(auto, unfolding(crate::specs::Turning::facet_from))]
-fn facet_from(p: Poly, turn: Turn, a: usize, b: usize) -> (usize, Turn)
+/// The facet that stands where two of its corners do, one after the other, and its own symmetry.
+#[tactic(auto, unfolding(crate::specs::Symmetries::facet_from))]
+fn facet_from(p: Poly, symmetry: Symmetry, a: usize, b: usize) -> (usize, Symmetry)
     requires first { a < corner_count p }
     requires second { b < corner_count p }
-    ensures { result ≡ facet_from p turn a b }
+    ensures { result ≡ facet_from p symmetry a b }
 {
-    match (p, turn) {
-        (Poly::Vertex | Poly::Segment, _) => (a, Turn::Rotation(0)),
-        (_, Turn::Rotation(_)) => (facet_along(p, a, b), Turn::Rotation(place_along(p, a, b))),
-        (_, Turn::Reflection(_)) => {
-            let start = begun_behind(p, place_along(p, b, a));
-            (facet_along(p, b, a), Turn::Reflection(start))
+    match (p, symmetry) {
+        (Poly::Vertex | Poly::Segment, _) => (a, Symmetry::Rotation(0)),
+        (_, Symmetry::Rotation(_)) => (facet_along(p, a, b), Symmetry::Rotation(place_along(p, a, b))),
+        (_, Symmetry::Reflection(_)) => {
+            let start = start_after(p, place_along(p, b, a));
+            (facet_along(p, b, a), Symmetry::Reflection(start))
         }
     }
 }
 
-/// Where a polytope is listed under `o`: which of its facets stands at the place of facet `k`, and
-/// the orientation under which that facet becomes what stands there.
+/// Where a polytope is listed under its orientation `o`: which of its facets stands at the place of
+/// facet `k`, and the orientation of that facet under which it becomes what stands there. After the
+/// arrangements of cones in DMPlex. A vertex has no facets, and so no `k`.
 pub fn cone_under(p: Poly, o: i8, k: usize) -> (usize, i8)
     requires orientation { IsOrientation p o }
     requires facet { k < length (facets_of p) }
@@ -101,9 +102,9 @@ pub fn cone_under(p: Poly, o: i8, k: usize) -> (usize, i8)
     ensures facet_orientation { IsOrientation (facet_at p result.0).poly result.1 }
     ensures carries { (a : List ℕ) → picked (act p o a) (facet_at p k).corners ≡ act (facet_at p result.0).poly result.1 (picked a (facet_at p result.0).corners) }
 {
-    let turn = turn_of(o);
-    let a = facet_corner_turned(p, turn, k, 0);
-    let b = facet_corner_turned(p, turn, k, facet_second(p));
-    let (facet, facet_turn) = facet_from(p, turn, a, b);
-    (facet, number_of(facet_turn))
+    let symmetry = symmetry_of(o);
+    let a = facet_corner_listed(p, symmetry, k, 0);
+    let b = facet_corner_listed(p, symmetry, k, facet_second(p));
+    let (facet, facet_symmetry) = facet_from(p, symmetry, a, b);
+    (facet, orientation_of(facet_symmetry))
 }

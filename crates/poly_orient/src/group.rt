@@ -5,58 +5,59 @@ ghost use Rattle.mesh_defs.specs.Tables.{corner_count};
 ghost use Rattle.plain_lists.specs.Lists.{picked};
 ghost use Rattle.mesh_defs.specs.Orientation.{act};
 ghost use Rattle.poly_orient.specs.Group.{IsOrientation, composition, corners_of};
-ghost use Rattle.poly_orient.specs.Turning.{corners_turned, IsTurn, joint, place, second, undoing};
+ghost use Rattle.poly_orient.specs.Symmetries.{corners_listed, IsSymmetry, combine_senses, place, second, undo};
 
 use crate::corners::{corner, place, second};
 use crate::tables::{
     HEX_REFLECTION_INVERSES, HEX_ROTATION_INVERSES, TET_REFLECTION_INVERSES, TET_ROTATION_INVERSES,
 };
-use crate::turn::{Turn, number_of, turn_of};
+use crate::symmetry::{Symmetry, orientation_of, symmetry_of};
 use poly_tables::Poly;
 
-/// The turn at this place whose sense is kept where both turns keep it or neither does.
-#[tactic(auto, unfolding(crate::specs::Turning::joint))]
-fn joint(a: Turn, b: Turn, place: usize) -> Turn
-    ensures { result ≡ joint a b place }
+/// The symmetry at this place whose sense is kept where both symmetries keep it or neither does.
+#[tactic(auto, unfolding(crate::specs::Symmetries::combine_senses))]
+fn combine_senses(a: Symmetry, b: Symmetry, place: usize) -> Symmetry
+    ensures { result ≡ combine_senses a b place }
 {
     match (a, b) {
-        (Turn::Rotation(_), Turn::Rotation(_)) | (Turn::Reflection(_), Turn::Reflection(_)) => {
-            Turn::Rotation(place)
+        (Symmetry::Rotation(_), Symmetry::Rotation(_)) | (Symmetry::Reflection(_), Symmetry::Reflection(_)) => {
+            Symmetry::Rotation(place)
         }
-        _ => Turn::Reflection(place),
+        _ => Symmetry::Reflection(place),
     }
 }
 
-/// The turn that is `a` applied after `b`.
-fn composed(p: Poly, a: Turn, b: Turn) -> Turn
-    requires after { IsTurn p a }
-    requires before { IsTurn p b }
-    ensures turn { IsTurn p result }
-    ensures corners { corners_turned p result ≡ picked (corners_turned p b) (corners_turned p a) }
+/// The symmetry that is `a` applied after `b`.
+fn compose_symmetries(p: Poly, a: Symmetry, b: Symmetry) -> Symmetry
+    requires after { IsSymmetry p a }
+    requires before { IsSymmetry p b }
+    ensures symmetry { IsSymmetry p result }
+    ensures corners { corners_listed p result ≡ picked (corners_listed p b) (corners_listed p a) }
 {
     let first = corner(p, b, corner(p, a, 0));
     let second = corner(p, b, corner(p, a, second(p)));
-    joint(a, b, place(p, first, second))
+    combine_senses(a, b, place(p, first, second))
 }
 
-/// The turn that undoes this one. A reflection of a polygon undoes itself.
-#[tactic(auto, unfolding(crate::specs::Turning::undoing, mesh_defs::specs::Orientation::rotations, mesh_defs::specs::Orientation::reflections))]
-fn undoing(p: Poly, turn: Turn) -> Turn
-    requires { IsTurn p turn }
-    ensures { result ≡ undoing p turn }
+/// The symmetry that undoes this one. A reflection of a polygon undoes itself.
+#[tactic(auto, unfolding(crate::specs::Symmetries::undo, mesh_defs::specs::Orientation::rotations, mesh_defs::specs::Orientation::reflections))]
+fn undo(p: Poly, symmetry: Symmetry) -> Symmetry
+    requires { IsSymmetry p symmetry }
+    ensures { result ≡ undo p symmetry }
 {
-    match (p, turn) {
-        (Poly::Triangle, Turn::Rotation(o)) => Turn::Rotation((3 - o) % 3),
-        (Poly::Quad, Turn::Rotation(o)) => Turn::Rotation((4 - o) % 4),
-        (Poly::Tet, Turn::Rotation(o)) => Turn::Rotation(TET_ROTATION_INVERSES[o] as usize),
-        (Poly::Tet, Turn::Reflection(s)) => Turn::Reflection(TET_REFLECTION_INVERSES[s] as usize),
-        (Poly::Hex, Turn::Rotation(o)) => Turn::Rotation(HEX_ROTATION_INVERSES[o] as usize),
-        (Poly::Hex, Turn::Reflection(s)) => Turn::Reflection(HEX_REFLECTION_INVERSES[s] as usize),
-        _ => turn,
+    match (p, symmetry) {
+        (Poly::Triangle, Symmetry::Rotation(o)) => Symmetry::Rotation((3 - o) % 3),
+        (Poly::Quad, Symmetry::Rotation(o)) => Symmetry::Rotation((4 - o) % 4),
+        (Poly::Tet, Symmetry::Rotation(o)) => Symmetry::Rotation(TET_ROTATION_INVERSES[o] as usize),
+        (Poly::Tet, Symmetry::Reflection(s)) => Symmetry::Reflection(TET_REFLECTION_INVERSES[s] as usize),
+        (Poly::Hex, Symmetry::Rotation(o)) => Symmetry::Rotation(HEX_ROTATION_INVERSES[o] as usize),
+        (Poly::Hex, Symmetry::Reflection(s)) => Symmetry::Reflection(HEX_REFLECTION_INVERSES[s] as usize),
+        _ => symmetry,
     }
 }
 
-/// The orientation that is `a` applied after `b`: acting by it is acting by `b` and then by `a`.
+/// The orientation that is `a` applied after `b`: acting by it is acting by `b` and then by `a`. Both
+/// are orientations of `p`. After `DMPolytopeTypeComposeOrientation`.
 pub fn compose(p: Poly, a: i8, b: i8) -> i8
     requires after { IsOrientation p a }
     requires before { IsOrientation p b }
@@ -65,10 +66,11 @@ pub fn compose(p: Poly, a: i8, b: i8) -> i8
     ensures value { result ≡ composition p a b }
     ensures acts { (vertices : List ℕ) → act p result vertices ≡ act p a (act p b vertices) }
 {
-    number_of(composed(p, turn_of(a), turn_of(b)))
+    orientation_of(compose_symmetries(p, symmetry_of(a), symmetry_of(b)))
 }
 
-/// The orientation that undoes `o`: composed with it on either side it gives 0.
+/// The orientation of `p` that undoes `o`, one of `p` as well: composed with it on either side it
+/// gives 0. After `DMPolytopeTypeComposeOrientationInv`.
 pub fn inverse(p: Poly, o: i8) -> i8
     requires { IsOrientation p o }
 
@@ -77,5 +79,5 @@ pub fn inverse(p: Poly, o: i8) -> i8
     ensures before { composition p o result ≡ pos 0 }
     ensures undoes { (vertices : List ℕ) → length vertices ≡ corner_count p → act p result (act p o vertices) ≡ vertices }
 {
-    number_of(undoing(p, turn_of(o)))
+    orientation_of(undo(p, symmetry_of(o)))
 }

@@ -10,7 +10,7 @@ mod listing;
 mod relation;
 mod rules;
 mod tables;
-mod turn;
+mod symmetry;
 
 pub use facets::cone_under;
 pub use group::{compose, inverse};

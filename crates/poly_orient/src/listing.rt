@@ -6,11 +6,11 @@ ghost use Rattle.mesh_defs.specs.Orientation.{act};
 ghost use Rattle.poly_orient.specs.Group.{IsOrientation, Differ};
 
 use crate::corners::corner;
-use crate::turn::turn_of;
+use crate::symmetry::symmetry_of;
 use poly_tables::{Poly, vertex_count};
 
-/// The least and the greatest orientation of a polytope. Those from 0 on keep its sense, and those
-/// below 0 turn it over.
+/// The least and the greatest orientation of a polytope, which has all between them. Those from 0
+/// on keep its sense, and those below 0 turn it over. After the arrangements of a polytope in DMPlex.
 pub fn orientations(p: Poly) -> (i8, i8)
     ensures { (o : ℤ) → IsOrientation p o ↔ ((result.0 ≤ℤ o) × (o ≤ℤ result.1)) }
 {
@@ -24,7 +24,8 @@ pub fn orientations(p: Poly) -> (i8, i8)
     }
 }
 
-/// Lists the vertices `a` of a polytope under the orientation `o`, into `to`.
+/// Lists the vertices `a` of a polytope, one for each corner, under its orientation `o`, into `to`,
+/// which is as long.
 pub fn act(p: Poly, o: i8, a: &[u32], to: &mut [u32])
     requires orientation { IsOrientation p o }
     requires from_corners { length a.now ≡ corner_count p }
@@ -34,8 +35,8 @@ pub fn act(p: Poly, o: i8, a: &[u32], to: &mut [u32])
     ensures same { o ≡ pos 0 → to.new ≡ a.now }
     ensures apart { (other : ℤ) → IsOrientation p other → other ≢ o → Differ a.now → act p other a.now ≢ to.new }
 {
-    let turn = turn_of(o);
+    let symmetry = symmetry_of(o);
     for k in 0..vertex_count(p) {
-        to[k] = a[corner(p, turn, k)];
+        to[k] = a[corner(p, symmetry, k)];
     }
 }

@@ -6,15 +6,15 @@ ghost use Rattle.plain_lists.specs.Lists.{picked};
 ghost use Rattle.mesh_defs.specs.Tables.{corner_count};
 ghost use Rattle.mesh_defs.specs.Orientation.{act, relative};
 ghost use Rattle.poly_orient.specs.Group.{IsOrientation, Differ};
-ghost use Rattle.poly_orient.specs.Turning.{corners_turned, IsTurn, settled, telling};
+ghost use Rattle.poly_orient.specs.Symmetries.{corners_listed, IsSymmetry, settle, telling_place};
 
 use crate::corners::{corner, place, second};
-use crate::turn::{Turn, number_of};
+use crate::symmetry::{Symmetry, orientation_of};
 use poly_tables::{Poly, vertex_count};
 
 /// The place whose corner tells the two senses apart, once the first and the second corner are known.
-fn telling(p: Poly) -> usize
-    ensures place { result ≡ telling p }
+fn telling_place(p: Poly) -> usize
+    ensures place { result ≡ telling_place p }
     ensures in_range { result < corner_count p }
 {
     match p {
@@ -24,20 +24,21 @@ fn telling(p: Poly) -> usize
     }
 }
 
-/// The turn under which these corners stand first, second and at the telling place, if there is one.
-fn settled(p: Poly, first: usize, second: usize, third: usize) -> Turn
+/// The symmetry under which these corners stand first, second and at the telling place, if there is
+/// one.
+fn settle(p: Poly, first: usize, second: usize, third: usize) -> Symmetry
     requires first { first < corner_count p }
     requires second { second < corner_count p }
     requires third { third < corner_count p }
-    ensures turn { result ≡ settled p first second third }
-    ensures has { IsTurn p result }
+    ensures symmetry { result ≡ settle p first second third }
+    ensures has { IsSymmetry p result }
 {
     let place = place(p, first, second);
-    let turn = Turn::Rotation(place);
-    if corner(p, turn, telling(p)) == third {
-        turn
+    let symmetry = Symmetry::Rotation(place);
+    if corner(p, symmetry, telling_place(p)) == third {
+        symmetry
     } else {
-        Turn::Reflection(place)
+        Symmetry::Reflection(place)
     }
 }
 
@@ -48,15 +49,15 @@ fn place_of(vertices: &[u32], vertex: u32) -> Option<usize>
     vertices.iter().position(|v| *v == vertex)
 }
 
-/// Whether the turn leads from one list to the other.
-fn leads(p: Poly, turn: Turn, from: &[u32], to: &[u32]) -> bool
-    requires turn { IsTurn p turn }
+/// Whether the symmetry leads from one list to the other.
+fn leads(p: Poly, symmetry: Symmetry, from: &[u32], to: &[u32]) -> bool
+    requires symmetry { IsSymmetry p symmetry }
     requires from_corners { length from.now ≡ corner_count p }
     requires to_corners { length to.now ≡ corner_count p }
-    ensures { IsTrue result ↔ (picked from.now (corners_turned p turn) ≡ to.now) }
+    ensures { IsTrue result ↔ (picked from.now (corners_listed p symmetry) ≡ to.now) }
 {
     for k in 0..vertex_count(p) {
-        if from[corner(p, turn, k)] != to[k] {
+        if from[corner(p, symmetry, k)] != to[k] {
             return false;
         }
     }
@@ -64,7 +65,10 @@ fn leads(p: Poly, turn: Turn, from: &[u32], to: &[u32]) -> bool
 }
 
 /// The orientation under which the vertices `from` of a polytope become the list `to`, if there is
-/// one. The places in `from` of at most three vertices of `to` settle which one it can be.
+/// one. Both have one entry for each corner, and those of `from` differ. After
+/// `DMPolytopeGetVertexOrientation`.
+///
+/// The places in `from` of at most three vertices of `to` settle which one it can be.
 pub fn relative(p: Poly, from: &[u32], to: &[u32]) -> Option<i8>
     requires from_corners { length from.now ≡ corner_count p }
     requires to_corners { length to.now ≡ corner_count p }
@@ -76,10 +80,10 @@ pub fn relative(p: Poly, from: &[u32], to: &[u32]) -> Option<i8>
 {
     let first = place_of(from, to[0])?;
     let second = place_of(from, to[second(p)])?;
-    let third = place_of(from, to[telling(p)])?;
-    let turn = settled(p, first, second, third);
-    if leads(p, turn, from, to) {
-        Some(number_of(turn))
+    let third = place_of(from, to[telling_place(p)])?;
+    let symmetry = settle(p, first, second, third);
+    if leads(p, symmetry, from, to) {
+        Some(orientation_of(symmetry))
     } else {
         None
     }

@@ -3,7 +3,7 @@ use Rattle.mesh_defs.specs.declared.Poly.{Poly}
 use Rattle.mesh_defs.specs.declared.Poly.TheVariants.{Vertex, Segment, Triangle, Quad, Tet, Hex}
 use Rattle.mesh_defs.specs.Orientation.{rotations, reflections}
 use Rattle.poly_orient.specs.Group.{IsOrientation}
-use Rattle.poly_orient.proofs.Turns.{both_ends}
+use Rattle.poly_orient.proofs.Symmetries.{both_ends}
 use Rattle.poly_orient.proofs.listing.orientations.Goals as goal
 
 -- the orientations lie between these two, and all that lie there are orientations

@@ -5,11 +5,11 @@ use Rattle.std.proofs.lemmas.List.{take_all, get_or-take, length-take}
 use Rattle.std.proofs.lemmas.List.Elements.{All-get_or}
 use Rattle.mesh_defs.specs.declared.Poly.TheVariants.{Hex}
 use Rattle.plain_lists.specs.Lists.{below}
+use Rattle.plain_lists.proofs.Below.{passes-below, all_pass-below}
 use Rattle.mesh_defs.specs.Orientation.{rotations, reflections, act, corners_under}
 use Rattle.poly_orient.specs.Rules.{IsOrder, KeepsEdges, are_joined, keeps_facets}
-use Rattle.poly_orient.proofs.Rows.{below_all}
 use Rattle.poly_orient.proofs.Searching.{listings, listings-find}
-use Rattle.poly_orient.proofs.Permutations.{is_order, IsOrder-tested, AreRising-tested, passes_at, all_below, is_sorted_out, kept_found, turned_over_found, is_new}
+use Rattle.poly_orient.proofs.Permutations.{is_order, IsOrder-tested, AreRising-tested, passes_at, is_sorted_out, kept_found, turned_over_found, is_new}
 use Rattle.poly_orient.proofs.rules.hexahedron_permutations.Goals as goal
 
 abbrev same : Bool → Bool → Bool
@@ -25,7 +25,7 @@ same-true false b h = sym (not-true b h)
 
 -- ---- the search
 
--- a corner may stand behind those that it is not among, where edges join it to them just as they join their places
+-- a corner may stand after those that it is not among, where edges join it to them just as they join their places
 abbrev may_follow : List ℕ → ℕ → Bool
 may_follow front c = not (list_any (λ d. d == c) front) && list_all (λ i. same (are_joined (get_or front i 0) c) (are_joined i (length front))) (below (length front))
 
@@ -33,7 +33,7 @@ joined_alike : (corners : List ℕ) (k : ℕ) → KeepsEdges corners → k < 8 �
     → list_all (λ i. same (are_joined (get_or (take k corners) i 0) (get_or corners k 0)) (are_joined i (length (take k corners)))) (below (length (take k corners))) ≡ true
 joined_alike corners k keeps lt size =
     let width : length (take k corners) ≡ k = omega (arith, length-take k corners, lt, size) in
-    all_below (λ i. same (are_joined (get_or (take k corners) i 0) (get_or corners k 0)) (are_joined i (length (take k corners)))) (length (take k corners))
+    all_pass-below (λ i. same (are_joined (get_or (take k corners) i 0) (get_or corners k 0)) (are_joined i (length (take k corners)))) (length (take k corners))
     (λ i inside.
     let earlier : i < k = omega (arith, inside, width) in
     (λ j. same (are_joined (get_or-take k corners i 0 earlier j) (get_or corners k 0)) (are_joined i (width j)))
@@ -57,8 +57,8 @@ keeps_edges corners = list_all (λ a. list_all (λ b. same (are_joined (get_or c
 
 KeepsEdges-tested : (corners : List ℕ) → keeps_edges corners ≡ true → KeepsEdges corners
 KeepsEdges-tested corners tested a b in_a in_b =
-    let row = below_all (λ a. list_all (λ b. same (are_joined (get_or corners a 0) (get_or corners b 0)) (are_joined a b)) (below 8)) 8 a tested in_a in
-    same-true _ _ (below_all (λ b. same (are_joined (get_or corners a 0) (get_or corners b 0)) (are_joined a b)) 8 b row in_b)
+    let row = passes-below (λ a. list_all (λ b. same (are_joined (get_or corners a 0) (get_or corners b 0)) (are_joined a b)) (below 8)) 8 a tested in_a in
+    same-true _ _ (passes-below (λ b. same (are_joined (get_or corners a 0) (get_or corners b 0)) (are_joined a b)) 8 b row in_b)
 
 kept_rows : list_all (λ corners. is_order 8 corners && (keeps_edges corners && keeps_facets corners)) (rotations Hex) ≡ true
 unfolding rotations act corners_under

@@ -10,7 +10,7 @@ use Rattle.poly_orient.proofs.Searching.{listings, listings-find}
 use Rattle.poly_orient.proofs.Permutations.{is_order, IsOrder-tested, AreRising-tested, passes_at, is_sorted_out, kept_found, turned_over_found, is_new}
 use Rattle.poly_orient.proofs.rules.tetrahedron_permutations.Goals as goal
 
--- an entry may stand behind those that it is not among
+-- an entry may stand after those that it is not among
 abbrev may_follow : List ℕ → ℕ → Bool
 may_follow front c = not (list_any (λ d. d == c) front)
 
