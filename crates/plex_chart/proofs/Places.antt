@@ -8,11 +8,11 @@ use Rattle.plex_chart.specs.Chart.{chart_size, IsInStratum, HasStrata}
 pub IsInStratum-cell : (g : Diagram) (p : ℕ) → p < g.cells → IsInStratum g g.dim p
 IsInStratum-cell g p h = record { from = grind (arith, nat_tests); to = grind (arith, nat_tests) }
 
--- the vertices stand behind the cells
+-- the vertices stand after the cells
 pub IsInStratum-vertex : (g : Diagram) (p : ℕ) → 2 ≤ g.dim → g.cells ≤ p → p < g.cells + g.vertices → IsInStratum g 0 p
 IsInStratum-vertex g p dim from to = record { from = grind (arith, nat_tests); to = grind (arith, nat_tests) }
 
--- the faces of a solid mesh stand behind the vertices
+-- the faces of a solid mesh stand after the vertices
 pub IsInStratum-face : (g : Diagram) (p : ℕ) → g.dim ≡ 3 → g.cells + g.vertices ≤ p → p < g.cells + g.vertices + g.faces → IsInStratum g 2 p
 IsInStratum-face g p dim from to = record { from = grind (arith, nat_tests); to = grind (arith, nat_tests) }
 

@@ -11,7 +11,7 @@ use Rattle.mesh_defs.specs.Diagram.{Covering, Diagram}
 abbrev pub chart_size : Diagram → ℕ
 chart_size g = g.cells + g.vertices + g.faces + g.edges
 
--- The points of a dimension, from the first to behind the last: the cells, the vertices behind them, the faces of a
+-- The points of a dimension, from the first to after the last: the cells, the vertices after them, the faces of a
 -- solid mesh, and the edges. A dimension without points has the empty range.
 abbrev pub stratum_range : Diagram → ℕ → ℕ × ℕ
 stratum_range g dim =

@@ -15,7 +15,7 @@ use std::marker::Model;
 
 /// A diagram whose points are pushed one after another, as `DMPlexSetCone` and
 /// `DMPlexSetConeOrientation` fill one. Contracts see it as the diagram of the points so far.
-#[derive(Drop)]
+#[derive(Debug, Drop)]
 pub struct PlexBuilder {
     strata: Strata,
     cones: Cones,
@@ -35,8 +35,9 @@ impl Model for PlexBuilder {
 }
 
 impl PlexBuilder {
-    /// A diagram without points yet, with the dimension of its cells and the number of points in
-    /// each stratum. A mesh of polygons has no faces besides its cells.
+    /// A diagram without points yet, with the dimension of its cells, 2 or 3, and the number of
+    /// points in each stratum, as `DMPlexSetChart` fixes the chart. A mesh of polygons has no faces
+    /// besides its cells, and all points together are fewer than 2^32. Takes no memory.
     pub fn new(
         alloc: Global,
         dim: Dim,
@@ -63,9 +64,10 @@ impl PlexBuilder {
     }
 
     /// Pushes the next point, of the stratum that comes next in the chart, with one entry for each
-    /// facet in the order of the tables. The entries may name points that are yet to come.
+    /// facet in the order of the tables: `DMPlexSetCone` and `DMPlexSetConeOrientation`. The entries
+    /// may name points that are yet to come, each in the stratum of the facets.
     ///
-    /// Returns the number of the point.
+    /// Returns the number of the point. Fails only for want of memory, and then has pushed nothing.
     pub fn push(&mut self, poly: Poly, cone: &[ConeEntry]) -> Result<u32, NoMemory>
         requires place { IsInStratum self.old (dim_of poly) (length self.old.points) }
         requires arity { length cone.now ≡ length (facets_of poly) }
@@ -80,7 +82,8 @@ impl PlexBuilder {
         Ok(p)
     }
 
-    /// The diagram, once all its points are there.
+    /// The diagram, once all its points are there and each entry of a cone has the polytope and an
+    /// orientation of its facet (`DMSetUp`). Gives back the memory that growing left over.
     pub fn finish(self) -> Result<Plex, NoMemory>
         requires { IsWhole self }
         ensures { IfOk result (λ plex. plex ≡ self) }

@@ -8,14 +8,14 @@ use std::alloc::Global;
 use std::marker::Model;
 
 /// A point as it is stored. The cones of all but hexahedra lie within it.
-#[derive(Drop)]
+#[derive(Debug, Drop)]
 struct Stored {
     poly: Poly,
     cone: SmallVec<ConeEntry, 4>,
 }
 
 /// Points with their cones, in the order in which they were pushed.
-#[derive(Drop)]
+#[derive(Debug, Drop)]
 pub(crate) struct Cones {
     points: Vec<Stored>,
 }

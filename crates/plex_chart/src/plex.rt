@@ -12,8 +12,8 @@ use plex_base::Dim;
 use std::marker::Model;
 use std::ops::Range;
 
-/// The whole diagram of one rank, after DMPlex. No call takes memory.
-#[derive(Drop)]
+/// The whole diagram of one rank, after DMPlex, its points numbered from 0. No call takes memory.
+#[derive(Debug, Drop)]
 pub struct Plex {
     strata: Strata,
     cones: Cones,
@@ -43,7 +43,7 @@ impl Plex {
         Plex { strata, cones }
     }
 
-    /// The dimension of the cells: `DMGetDimension`.
+    /// The dimension of the cells, 2 or 3: `DMGetDimension`.
     pub fn dim(&self) -> Dim
         ensures { number_of result ≡ self.now.dim }
     {
@@ -61,7 +61,8 @@ impl Plex {
         self.cones.len() as u32
     }
 
-    /// The points of a dimension: `DMPlexGetDepthStratum`.
+    /// The points of a dimension, from the first to after the last: `DMPlexGetDepthStratum`. Empty
+    /// where the diagram has none.
     pub fn stratum(&self, d: Dim) -> Range<u32>
         ensures start { result.start ≡ (stratum_range self.now (number_of d)).0 }
         ensures end { result.end ≡ (stratum_range self.now (number_of d)).1 }
@@ -80,7 +81,8 @@ impl Plex {
     }
 
     /// What a point covers, one entry for each facet in the order of the tables, with the
-    /// orientations: `DMPlexGetOrientedCone`.
+    /// orientation under which the covered point's own arrangement is the facet:
+    /// `DMPlexGetOrientedCone`.
     pub fn cone(&self, p: u32) -> &[ConeEntry]
         requires { p < length self.now.points }
         ensures value { result.now ≡ (point_at self.now p).covers }

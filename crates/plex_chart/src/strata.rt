@@ -6,7 +6,7 @@ use plex_base::Dim;
 use std::ops::Range;
 
 /// The dimension of a mesh, and how many points it has of each dimension.
-#[derive(Clone, Copy)]
+#[derive(Clone, Copy, Debug)]
 pub(crate) struct Strata {
     pub dim: Dim,
     pub cells: u32,
