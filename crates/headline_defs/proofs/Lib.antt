@@ -3,3 +3,4 @@ pub mod TextRows
 pub mod StripTexts
 pub mod KnownTexts
 pub mod WordTexts
+pub mod OneName

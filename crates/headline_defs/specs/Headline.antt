@@ -33,25 +33,51 @@ pub record Call : Type 0 where
   pub kept_after : List Round
   pub status : Status
 
--- What there is under each name, in accord with what is told of it.
+-- The bytes of the plan's file and of the mesh's file, of each where it is there.
+pub record Files : Type 0 where
+  pub plan : Option (List ℕ)
+  pub mesh : Option (List ℕ)
+
+-- what there is, in accord with what is told of it
 abbrev pub IsFileWhereTold : Told (List ℕ) → Option (List ℕ) → Type 0
 IsFileWhereTold untold file = Unit {0}
 IsFileWhereTold absent file = file ≡ None
 IsFileWhereTold (told bytes) file = file ≡ Some bytes
 
-abbrev pub AreFiles : (List ℕ → Told (List ℕ)) → (List ℕ → Option (List ℕ)) → Type 0
-AreFiles file files = (name : List ℕ) → IsFileWhereTold (file name) (files name)
+-- what there is under a name, in accord with what is told there; where no file is asked for, nothing is told of it
+abbrev pub IsFileNamed : (List ℕ → Told (List ℕ)) → Option (List ℕ) → Option (List ℕ) → Type 0
+IsFileNamed file None bytes = Unit {0}
+IsFileNamed file (Some name) bytes = IsFileWhereTold (file name) bytes
 
 -- ---- what is asked
 
 -- What a call is asked for: the names of its files, and what these files give but for a twist of the mesh.
 pub record Asking : Type 0 where
-  pub names : List (List ℕ)
-  pub fitting : (List ℕ → Option (List ℕ)) → Result Task Refusal
+  pub plan_name : Option (List ℕ)
+  pub mesh_name : Option (List ℕ)
+  pub fitting : Option (List ℕ) → Option (List ℕ) → Result Task Refusal
+
+-- The files of a call, each in accord with what is told under its name. Where nothing is told of a name that is asked for
+-- twice, the two files may differ: a shelf may answer two takes of one name differently.
+pub record AreFiles (a : Asking) (file : List ℕ → Told (List ℕ)) (files : Files) : Type 0 where
+  pub plan : IsFileNamed file a.plan_name files.plan
+  pub mesh : IsFileNamed file a.mesh_name files.mesh
+
+abbrev pub listed : Option (List ℕ) → List (List ℕ)
+listed None = []
+listed (Some name) = name ∷ []
+
+-- the names that are asked for
+abbrev pub names_asked : Asking → List (List ℕ)
+names_asked a = listed a.plan_name ++ listed a.mesh_name
+
+-- what files give but for a twist of the mesh
+abbrev pub fitting_given : Asking → Files → Result Task Refusal
+fitting_given a files = a.fitting files.plan files.mesh
 
 -- what files give: a task, or the refusal that stands
-abbrev pub given : Asking → (List ℕ → Option (List ℕ)) → Result Task Refusal
-given asking files = asking.fitting files >>= where_even
+abbrev pub given : Asking → Files → Result Task Refusal
+given a files = fitting_given a files >>= where_even
 
 abbrev pub subject_of : Task → Subject
 subject_of task = record { mesh = task.mesh; plan = task.plan; show = record task.plan.shows { summary = task.summary } }
@@ -82,24 +108,24 @@ pub record HasAnswered (c : Call) (text : List ℕ) : Type 0 where
   pub flushed : AreFlushed c.written_after c.flushed
 
 -- the whole text of the task
-pub record IsDone (a : Asking) (c : Call) (files : List ℕ → Option (List ℕ)) (added : List Round) : Type 0 where
+pub record IsDone (a : Asking) (c : Call) (files : Files) (added : List Round) : Type 0 where
   pub task : Task
   pub asked : given a files ≡ Ok task
-  pub rounds : AreAllRounds (a.fitting files) added
+  pub rounds : AreAllRounds (fitting_given a files) added
   pub answered : HasAnswered c (whole_text (subject_of task) added)
 
 -- the line of a refusal of this status
-pub record IsRefused (a : Asking) (c : Call) (files : List ℕ → Option (List ℕ)) (added : List Round) : Type 0 where
+pub record IsRefused (a : Asking) (c : Call) (files : Files) (added : List Round) : Type 0 where
   pub refusal : Refusal
   pub refused : given a files ≡ Err refusal
   pub status : refusal.status ≡ c.status
-  pub rounds : AreAllRounds (a.fitting files) added
+  pub rounds : AreAllRounds (fitting_given a files) added
   pub answered : HasAnswered c refusal.text
 
 -- taking the file of a name that was asked for has failed: the shelf's count rose, and this is the name that failed last
 pub record HasFailed (a : Asking) (c : Call) (name : List ℕ) : Type 0 where
   pub rose : Rises c.shelf_before c.shelf_after
-  pub asked : Contains a.names name
+  pub asked : Contains (names_asked a) name
   pub last : IsWhereTold c.last_failed name
 
 -- the line for a file that could not be read
@@ -111,22 +137,22 @@ pub record IsUnread (a : Asking) (c : Call) (added : List Round) : Type 0 where
 
 -- What may have been begun: the line of the refusal that stands; the line for a file that could not be read; or as much of
 -- the text as the rounds that were kept make known.
-pub data MayBegin (a : Asking) (c : Call) (files : List ℕ → Option (List ℕ)) (added : List Round) : List ℕ → Type 0 where
+pub data MayBegin (a : Asking) (c : Call) (files : Files) (added : List Round) : List ℕ → Type 0 where
   refusing : (refusal : Refusal) → given a files ≡ Err refusal → MayBegin a c files added refusal.text
   unread : (name : List ℕ) → HasFailed a c name → MayBegin a c files added (read_refused name)
   telling : (task : Task) (text : List ℕ) → given a files ≡ Ok task → known_text (subject_of task) added ≡ Some text → MayBegin a c files added text
 
 -- nothing has been written, or a part, from its beginning, of what may have been begun
-abbrev pub WritesPart : Asking → Call → (List ℕ → Option (List ℕ)) → List Round → Type 0
+abbrev pub WritesPart : Asking → Call → Files → List Round → Type 0
 WritesPart a c files added = (c.written_after ≡ c.written_before) ⊎ ((text : List ℕ) × MayBegin a c files added text × AppendsPart c.written_before c.written_after text)
 
 -- the sink has failed
-pub record IsUnwritten (a : Asking) (c : Call) (files : List ℕ → Option (List ℕ)) (added : List Round) : Type 0 where
+pub record IsUnwritten (a : Asking) (c : Call) (files : Files) (added : List Round) : Type 0 where
   pub rose : Rises c.sink_before c.sink_after
   pub part : WritesPart a c files added
 
 -- the status has its cause
-abbrev pub HasCause : Asking → Call → (List ℕ → Option (List ℕ)) → List Round → Status → Type 0
+abbrev pub HasCause : Asking → Call → Files → List Round → Status → Type 0
 HasCause a c files added Done = IsDone a c files added
 HasCause a c files added Words = IsRefused a c files added
 HasCause a c files added Plan = IsRefused a c files added
@@ -145,7 +171,7 @@ IsTold absent = Unit {0}
 IsTold (told bytes) = Unit {0}
 
 abbrev pub AreTold : Asking → Call → Type 0
-AreTold a c = (name : List ℕ) → Contains a.names name → IsTold (c.file name)
+AreTold a c = (name : List ℕ) → Contains (names_asked a) name → IsTold (c.file name)
 
 -- the status that files give
 abbrev pub status_given : Result Task Refusal → Status
@@ -158,10 +184,10 @@ status_given (Err refusal) = refusal.status
 -- of those that are due; the status has its cause; and where the files are told and neither the shelf nor the sink has
 -- failed, it is the status that the files give, or NoMemory.
 pub record Headline (a : Asking) (c : Call) : Type 0 where
-  pub files : List ℕ → Option (List ℕ)
-  pub agree : AreFiles c.file files
+  pub files : Files
+  pub agree : AreFiles a c.file files
   pub added : List Round
   pub kept : c.kept_after ≡ c.kept_before ++ added
-  pub rounds : AreFirstRounds (a.fitting files) added
+  pub rounds : AreFirstRounds (fitting_given a files) added
   pub cause : HasCause a c files added c.status
   pub complete : AreTold a c → (Rises c.shelf_before c.shelf_after → ⊥) → (Rises c.sink_before c.sink_after → ⊥) → (c.status ≡ status_given (given a files)) ⊎ (c.status ≡ NoMemory)

@@ -8,30 +8,22 @@ use Rattle.sf_defs.specs.Rounds.{Round}
 use Rattle.sf_defs.specs.Script.{scripted}
 use Rattle.rank_defs.specs.Home.{home_points, home_words, home_asks, number_asks}
 use Rattle.input_defs.specs.declared.Status.TheVariants.{Words}
-use Rattle.input_defs.specs.Words.{Source, File, Made, Request, request}
+use Rattle.input_defs.specs.Words.{plan_name, mesh_name}
 use Rattle.input_defs.specs.Refused.{Task, Refusal, refuse, fitting_task, where_even}
+use Rattle.input_defs.specs.Ahead.{built_task}
 use Rattle.headline_defs.specs.Picks.{picks_of}
 use Rattle.headline_defs.specs.Rounds.{Due, Keys, Numbers}
-use Rattle.headline_defs.specs.Headline.{Call, Asking, Headline, due_where}
+use Rattle.headline_defs.specs.Headline.{Call, Asking, Headline, fitting_given, due_where}
 
 -- ---- over any fabric
 
--- the names of the files that are asked for: the plan's, then the mesh's
-abbrev pub plan_name : Option (List ℕ) → List (List ℕ)
-plan_name None = []
-plan_name (Some name) = name ∷ []
-
-abbrev pub mesh_name : Source → List (List ℕ)
-mesh_name (File name) = name ∷ []
-mesh_name (Made kind n) = []
-
-abbrev pub names_where : Option Request → List (List ℕ)
-names_where None = []
-names_where (Some r) = plan_name r.plan ++ mesh_name r.source
-
 -- what words ask
 unfoldable pub asking : List (List ℕ) → Asking
-asking words = record { names = names_where (request words); fitting = fitting_task words }
+asking words = record { plan_name = plan_name words; mesh_name = mesh_name words; fitting = fitting_task words }
+
+-- the same as long as some lines of plans are not built
+unfoldable pub asking_built : List (List ℕ) → Asking
+asking_built words = record (asking words) { fitting = built_task words }
 
 abbrev pub IsJob : Call → Type 0
 IsJob c = Headline (asking c.words) c
@@ -49,7 +41,7 @@ runs picks task = map (run task.mesh task.plan.ranks picks) (due_where (where_ev
 
 -- words whose first one is no list of picks are refused
 abbrev pub asking_where : Option (List ℕ) → List (List ℕ) → Asking
-asking_where None words = record { names = []; fitting = λ files. refuse Words words_refused }
+asking_where None words = record { plan_name = None; mesh_name = None; fitting = λ plan_file mesh_file. refuse Words words_refused }
 asking_where (Some picks) words = asking words
 
 abbrev pub picks_in : List (List ℕ) → Option (List ℕ)
@@ -74,4 +66,4 @@ AreByPicks (Some picks) (Ok task) added = added ≡ take (length added) (runs pi
 pub record IsReplay (c : Call) : Type 0 where
   pub headline : Headline (replay_asking c.words) c
   pub no_rounds : c.kept_before ≡ []
-  pub by_picks : AreByPicks (picks_in c.words) ((replay_asking c.words).fitting headline.files) headline.added
+  pub by_picks : AreByPicks (picks_in c.words) (fitting_given (replay_asking c.words) headline.files) headline.added

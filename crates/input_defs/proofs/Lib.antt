@@ -7,3 +7,4 @@ pub mod WordRows
 pub mod MadeRows
 pub mod RefusalRows
 pub mod TextRows
+pub mod AheadRows

@@ -10,3 +10,4 @@ pub mod Words
 pub mod Generated
 pub mod Refused
 pub mod Further
+pub mod Ahead

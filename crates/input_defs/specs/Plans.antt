@@ -142,10 +142,14 @@ with_form b line (Some (IsMove (Layers k))) = unless
 with_form b line (Some (IsDofs d)) = unless (first_cause ((not (is_field_name d.name) || list_any (λ (e : DofsLine). same_list e.name d.name) b.dofs || list_any (λ n. nat_lt 16 n) d.dofs || nat_le 8 (length b.dofs), Dofs line) ∷ [])) (record b { dofs = b.dofs ++ d ∷ [] })
 with_form b line (Some (IsShow s)) = Ok (record b { shows = both b.shows s })
 
--- a line without words, and one whose first word begins with `#`, say nothing
+-- the first word of a line that says nothing begins with `#`
+abbrev pub is_comment : List ℕ → Bool
+is_comment word = get_or word 0 0 == 35
+
+-- a line without words says nothing either
 abbrev pub with_line : Before → ℕ → List (List ℕ) → Result Before PlanFault
 with_line b line [] = Ok b
-with_line b line (word ∷ tokens) = if get_or word 0 0 == 35 then Ok b else with_form b line (form_of word tokens)
+with_line b line (word ∷ tokens) = if is_comment word then Ok b else with_form b line (form_of word tokens)
 
 -- ---- a plan
 

@@ -76,6 +76,7 @@ plan_text (plan.Dofs l) = on_line l (codes "dofs")
 plan_text (plan.PartLength l want got) = on_line l (one_number (one_number (codes "part length") got ++ codes " want") want)
 plan_text (plan.PartRank l n) = on_line l (one_number (codes "part rank") n)
 plan_text (plan.Weight l cells ranks) = on_line l (one_number (one_number (codes "weight") cells) ranks)
+plan_text (plan.NotYet l) = on_line l (codes "not yet")
 plan_text plan.NoMemory = []
 
 abbrev pub msh_refused : MshFault → List ℕ
@@ -120,37 +121,40 @@ abbrev pub mesh_in : List ℕ → Result Mesh Refusal
 mesh_in bytes = or_refuse status.Mesh msh_refused (content bytes) >>= (λ c. or_refuse status.Mesh mesh_refused (accepted c))
 
 -- where the files that are asked for are there: the plan or its refusal, and the mesh or its refusal
-abbrev pub plan_asked : (List ℕ → Option (List ℕ)) → Option (List ℕ) → Result (Result Plan Refusal) Refusal
-plan_asked file None = Ok (Ok plain_plan)
-plan_asked file (Some name) = map_ok (λ bytes. or_refuse status.Plan plan_refused (plan_of bytes)) (short_file name (file name))
+abbrev pub plan_asked : (List ℕ → Result Plan PlanFault) → Option (List ℕ) → Option (List ℕ) → Result (Result Plan Refusal) Refusal
+plan_asked read None file = Ok (Ok plain_plan)
+plan_asked read (Some name) file = map_ok (λ bytes. or_refuse status.Plan plan_refused (read bytes)) (short_file name file)
 
-abbrev pub mesh_asked : (List ℕ → Option (List ℕ)) → Source → Result (Result Mesh Refusal) Refusal
-mesh_asked file (File name) = map_ok mesh_in (short_file name (file name))
-mesh_asked file (Made kind n) = Ok (Ok (made kind n))
+abbrev pub mesh_asked : Source → Option (List ℕ) → Result (Result Mesh Refusal) Refusal
+mesh_asked (File name) file = map_ok mesh_in (short_file name file)
+mesh_asked (Made kind n) file = Ok (Ok (made kind n))
 
 -- what is to be done, unless the plan does not fit the mesh
 abbrev pub where_fits : Bool → Plan → Mesh → Result Task Refusal
 where_fits summary plan mesh = or_refuse status.Plan plan_refused (unless (misfit plan (length mesh.cells)) (record { mesh = mesh; plan = plan; summary = summary }))
 
--- What words and files ask for, or the first refusal that stands but for a twist of the mesh; `file` has the bytes under a
--- name, where it is there.
-unfoldable pub fitting_task : List (List ℕ) → (List ℕ → Option (List ℕ)) → Result Task Refusal
-fitting_task words file = do
+-- What words, the plan's file and the mesh's file ask for, or the first refusal that stands but for a twist of the mesh. A
+-- file is its bytes, where it is there; one that is not asked for says nothing. `read` is how a plan is read.
+unfoldable pub task_by : (List ℕ → Result Plan PlanFault) → List (List ℕ) → Option (List ℕ) → Option (List ℕ) → Result Task Refusal
+task_by read words plan_file mesh_file = do
   asked ← or_refuse status.Words (λ refused. refused) (ok_or (request words) words_refused)
-  plan_or ← plan_asked file asked.plan
-  mesh_or ← mesh_asked file asked.source
+  plan_or ← plan_asked read asked.plan plan_file
+  mesh_or ← mesh_asked asked.source mesh_file
   plan ← plan_or
   mesh ← mesh_or
   where_fits asked.summary plan mesh
+
+abbrev pub fitting_task : List (List ℕ) → Option (List ℕ) → Option (List ℕ) → Result Task Refusal
+fitting_task = task_by plan_of
 
 -- unless the mesh has a twist key
 abbrev pub where_even : Task → Result Task Refusal
 where_even t = or_refuse status.Mesh twist_refused (unless (twist_key t.mesh) t)
 
 -- what words and files ask for, or the first refusal that stands
-unfoldable pub task : List (List ℕ) → (List ℕ → Option (List ℕ)) → Result Task Refusal
-task words file = fitting_task words file >>= where_even
+unfoldable pub task : List (List ℕ) → Option (List ℕ) → Option (List ℕ) → Result Task Refusal
+task words plan_file mesh_file = fitting_task words plan_file mesh_file >>= where_even
 
 -- the refusal, or none
-abbrev pub refusal : List (List ℕ) → (List ℕ → Option (List ℕ)) → Option Refusal
-refusal words file = result_err (task words file)
+abbrev pub refusal : List (List ℕ) → Option (List ℕ) → Option (List ℕ) → Option Refusal
+refusal words plan_file mesh_file = result_err (task words plan_file mesh_file)

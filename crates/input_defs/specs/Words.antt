@@ -22,6 +22,11 @@ pub record Request : Type 0 where
   pub source : Source
   pub summary : Bool
 
+-- the name of the file of a mesh that is not made
+abbrev pub file_of : Source → Option (List ℕ)
+file_of (File name) = Some name
+file_of (Made kind n) = None
+
 -- a name is not empty and does not begin with `-`
 abbrev pub is_file_name : List ℕ → Bool
 is_file_name word = nat_le 1 (length word) && not (get_or word 0 0 == 45)
@@ -101,3 +106,10 @@ request_from asked waiting (word ∷ words) = option_and_then (λ next. request_
 -- what the words ask for, where they are accepted
 unfoldable pub request : List (List ℕ) → Option Request
 request words = request_from (record { plan = None; source = None; summary = false }) None words
+
+-- the names of the plan's file and of the mesh's file, where the words ask for one
+abbrev pub plan_name : List (List ℕ) → Option (List ℕ)
+plan_name words = option_and_then (λ (r : Request). r.plan) (request words)
+
+abbrev pub mesh_name : List (List ℕ) → Option (List ℕ)
+mesh_name words = option_and_then (λ (r : Request). file_of r.source) (request words)

@@ -91,6 +91,8 @@ pub enum PlanFault {
     PartRank { line: u32, rank: u32 },
     /// Cells times ranks are too many for overlap layers.
     Weight { line: u32, cells: u32, ranks: u32 },
+    /// The line is read and is not built yet.
+    NotYet { line: u32 },
     NoMemory,
 }
 
