@@ -47,7 +47,8 @@ fn signed(minus: bool, magnitude: u64) -> i64
     if minus { -value } else { value }
 }
 
-/// A fixed-point number in 10^-10, of at most 9 * 10^18 without its sign.
+/// The value of a token as a fixed-point number of a mesh file (Gmsh manual, MSH format), in units of
+/// 10^-10: from -9 * 10^18 to 9 * 10^18 of them.
 ///
 /// A token is an optional sign, then digits with at most one point among, before or after them and
 /// at least one digit, then optionally `e` or `E`, an optional sign and at least one digit. Its

@@ -54,8 +54,8 @@ fn append_fixed(v: i128, to: &mut Vec<u8>) -> Result<(), AllocError>
 }
 
 /// Appends the shortest decimal text of `v` times 10^-10: an optional `-`, the whole part and, where
-/// the rest is not 0, a point and its digits without zeros at the end. On an `Err` nothing is
-/// appended.
+/// the rest is not 0, a point and its digits without zeros at the end. It may ask for memory where
+/// `to` has no room; on an `Err` nothing is appended.
 pub fn print_fixed(v: i128, to: &mut Vec<u8>) -> Result<(), NoMemory>
     ensures { to.new.items ≡ (if is_ok result then to.old.items ++ fixed_text v else to.old.items) }
 {

@@ -38,7 +38,8 @@ impl<'a> Model for Scan<'a> {
 }
 
 impl<'a> Scan<'a> {
-    /// A scan of a file of at most 268,435,456 bytes, from its beginning.
+    /// A scan of the bytes of a file, from its beginning. Condition: at most [`MAX_FILE_BYTES`], so
+    /// that the number of each line fits 32 bits.
     pub fn new(bytes: &'a [u8]) -> Scan<'a>
         requires { length bytes.now ≤ MAX_FILE_BYTES }
         ensures { result ≡ record { bytes = bytes.now; place = 0 } }
@@ -60,7 +61,8 @@ impl<'a> Scan<'a> {
         self.at.line
     }
 
-    /// The bytes of a token.
+    /// The bytes of a token, without a copy. Condition: it lies within the file, as each token does
+    /// that a scan of this file answers.
     pub fn text(&self, t: &Token) -> &'a [u8]
         requires { IsWithin self.now.bytes t.now }
         ensures { result.now ≡ text_of self.now.bytes t.now }

@@ -44,7 +44,8 @@ pub fn split_sign(token: &[u8]) -> (bool, &[u8])
     }
 }
 
-/// An unsigned number: one or more decimal digits, at most 4,294,967,295.
+/// The value of a token as an unsigned number of a mesh file (Gmsh manual, MSH format): one or more
+/// decimal digits, zeros in front allowed, at most 4,294,967,295.
 ///
 /// An `Err` is `NotNumber` where the token has another shape, else `OutOfRange`.
 #[tactic(auto, unfolding(scan_defs::specs::Numbers::uint_of))]
@@ -58,8 +59,8 @@ pub fn read_uint(t: &[u8]) -> Result<u32, NumberFault>
     Ok(number as u32)
 }
 
-/// A signed number: decimal digits with or without one `-` or `+` in front, from -2,147,483,648 to
-/// 2,147,483,647.
+/// The value of a token as a signed number of a mesh file (Gmsh manual, MSH format): decimal digits
+/// with or without one `-` or `+` in front, from -2,147,483,648 to 2,147,483,647.
 ///
 /// An `Err` is `NotNumber` where the token has another shape, else `OutOfRange`.
 #[tactic(auto, unfolding(scan_defs::specs::Numbers::int_of))]

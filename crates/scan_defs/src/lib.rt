@@ -5,10 +5,11 @@
 //! that they share with the code above, which `scan` hands on.
 #![tactic(auto)]
 
-/// A run of bytes of one line: a token, the name on a header line, or a quoted text.
+/// A run of bytes of one line of a mesh file: a token, the name on a header line, or a quoted text
+/// (Gmsh manual, MSH format).
 #[derive(Clone, Copy, Debug, PartialEq, Eq)]
 pub struct Token {
-    /// The place of its first byte in the file, from 0.
+    /// The place of its first byte in the file, counted in bytes from 0.
     pub start: usize,
     /// The place after its last byte.
     pub end: usize,
@@ -16,11 +17,11 @@ pub struct Token {
     pub line: u32,
 }
 
-/// Why a token is no number of the kind that was read.
+/// Why a token is no number of the kind that was read. Shape comes before range.
 #[derive(Clone, Copy, Debug, PartialEq, Eq)]
 pub enum NumberFault {
     /// It has not the shape of such a number.
     NotNumber,
-    /// It has, and its value is out of range.
+    /// It has, and its value is out of the range of that kind.
     OutOfRange,
 }
