@@ -16,7 +16,8 @@ use Rattle.scan.proofs.Runs.{others, parts-first, parts-from, gap-in-line, back-
 abbrev pub left : Bool → ℕ → ℕ → List ℕ → List Item
 left indent place line bytes = items_of indent (lines_at place line (lines_of bytes))
 
-abbrev at : ℕ → ℕ → List ℕ → Line
+-- what is left of a line
+abbrev pub at : ℕ → ℕ → List ℕ → Line
 at place line text = record { start = place; number = line; text = text }
 
 -- ---- gaps
@@ -40,7 +41,7 @@ over-newline indent place line b bytes is =
 
 -- ---- a blank before a line
 
-front-blank : (b : ℕ) (text : List ℕ) → is_blank b ≡ true → front (b ∷ text) ≡ front text + 1
+pub front-blank : (b : ℕ) (text : List ℕ) → is_blank b ≡ true → front (b ∷ text) ≡ front text + 1
 front-blank b text is = rw is (omega arith)
 
 header-blank : (b : ℕ) (text : List ℕ) → is_blank b ≡ true → is_header (b ∷ text) ≡ is_header text

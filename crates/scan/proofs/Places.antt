@@ -14,7 +14,7 @@ use Rattle.scan_defs.specs.Steps.{line_ahead, next_token, place_after_token, ahe
 use Rattle.scan.specs.declared.cursor.Cursor.{Cursor}
 use Rattle.scan.specs.Cursors.{is_gap, spot, IsAt, IsWithin, header_name}
 use Rattle.scan.proofs.Ahead.{left, over-newline, over-blank, over-token, over-header, over-last-header, at-end, dollar-first, front-none}
-use Rattle.scan.proofs.Runs.{back-pos}
+use Rattle.scan.proofs.Runs.{back-pos, and-none}
 
 -- ---- lines and indents, one place on
 
@@ -46,10 +46,6 @@ indent-blank bytes p lt other is = indent-step bytes p lt ∙ rw (other, is) ref
 
 indent-ink : (bytes : List ℕ) (p : ℕ) → p < length bytes → is_newline (get_or bytes p 0) ≡ false → is_blank (get_or bytes p 0) ≡ false → is_indent bytes (p + 1) ≡ false
 indent-ink bytes p lt other is = indent-step bytes p lt ∙ rw (other, is) refl
-
-and-none : (b : Bool) → (b && false) ≡ false
-and-none true = refl
-and-none false = refl
 
 indent-kept : (bytes : List ℕ) (p : ℕ) → p < length bytes → is_newline (get_or bytes p 0) ≡ false → is_indent bytes p ≡ false → is_indent bytes (p + 1) ≡ false
 indent-kept bytes p lt other e = indent-step bytes p lt ∙ rw (other, e) (and-none (is_blank (get_or bytes p 0)))

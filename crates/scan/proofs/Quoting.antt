@@ -13,12 +13,9 @@ use Rattle.scan_defs.specs.Steps.{after_items_on}
 use Rattle.scan_defs.specs.Quotes.{is_quoted, quoted_on, or_line, quoted_where, quoted_from, quoted_in}
 use Rattle.scan.specs.Cursors.{is_gap, spot, IsAt}
 use Rattle.scan.specs.declared.cursor.Cursor.{Cursor}
-use Rattle.scan.proofs.Ahead.{left, first-line, lines-first, lines-from, no-items, first-words, front-none}
-use Rattle.scan.proofs.Runs.{others, parts-first, back-cons, back-some}
+use Rattle.scan.proofs.Ahead.{left, at, front-blank, first-line, lines-first, lines-from, no-items, first-words, front-none}
+use Rattle.scan.proofs.Runs.{others, parts-first, back-cons, back-some, and-none, cond-none, cond-some}
 use Rattle.scan.proofs.Places.{number-newline, number-other, both, no-gap, run-pos, first-left, run-inside, at-run, in-line, line-slice, line_end-is, line_end-more, ahead-is, past-token, header-ahead, ended-last}
-
-abbrev at : ℕ → ℕ → List ℕ → Line
-at place line text = record { start = place; number = line; text = text }
 
 abbrev inked : Line → Bool
 inked line = not (list_all is_blank line.text)
@@ -34,9 +31,6 @@ quoted-is bytes p = refl
 look-newline : (last place line b : ℕ) (bytes : List ℕ) → is_newline b ≡ true → look last place line (b ∷ bytes) ≡ look last (place + 1) (line + 1) bytes
 unfolding lines_of
 look-newline last place line b bytes is = let zero-is : place + 0 + 1 ≡ place + 1 = omega arith in rw (is, zero-is) refl
-
-front-blank : (b : ℕ) (text : List ℕ) → is_blank b ≡ true → front (b ∷ text) ≡ front text + 1
-front-blank b text is = rw is (omega arith)
 
 get-cons : (b i : ℕ) (text : List ℕ) → get_or (b ∷ text) (i + 1) 0 ≡ get_or text i 0
 get-cons b i text = rw add-one refl
@@ -109,10 +103,6 @@ pub record LooksHere (bytes : List ℕ) (c : Cursor) : Type 0 where
   pub lines : quoted_from (spot bytes c.place) ≡ or_line c.line (quoted_on (at c.place c.line (rest_of_line bytes c.place)))
   pub by-items : quoted_in bytes (ahead (spot bytes c.place)) ≡ or_line c.line (quoted_on (at c.place c.line (rest_of_line bytes c.place)))
 
-and-none : (b : Bool) → (b && false) ≡ false
-and-none true = refl
-and-none false = refl
-
 no-quote : (place line : ℕ) (text : List ℕ) → front text ≡ 0 → get_or text 0 0 ≡ 36 → quoted_on (at place line text) ≡ None
 unfolding quoted_on
 no-quote place line text f e =
@@ -178,14 +168,6 @@ looks-here bytes c is-at ink = elim (cases_lt c.place (length bytes)) [
 ]
 
 -- ---- what is found on a part of a line that begins without blanks
-
-cond-none : {X : Type 0} (b : Bool) (x : X) → None ≡ cond b (Some x) None → b ≡ false
-cond-none true x e = absurd cc
-cond-none false x e = refl
-
-cond-some : {X : Type 0} (b : Bool) (x y : X) → Some y ≡ cond b (Some x) None → (b ≡ true) × (y ≡ x)
-cond-some true x y e = (refl, cc)
-cond-some false x y e = absurd cc
 
 pub quoted-none : (place line : ℕ) (text : List ℕ) → None ≡ cond (is_quoted text) (Some (back text - 1)) None → or_line line (quoted_on (at place line text)) ≡ Err line
 unfolding quoted_on

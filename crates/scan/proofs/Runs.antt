@@ -1,5 +1,5 @@
 -- Parts of lists of bytes between those that pass a test, seen from a place in the first of them.
-use Rattle.std.proofs.Common.{◌≡◌, ℕ, zero, suc, ◌+◌, ◌-◌, ◌<◌, ◌≤◌, Bool, true, false, not, cond, ◌||◌, List, [], ◌∷◌, ◌++◌, length, take, drop, get_or, reverse, refl, ap, ◌∙◌, inl, inr, arith}
+use Rattle.std.proofs.Common.{◌≡◌, ℕ, zero, suc, ◌+◌, ◌-◌, ◌<◌, ◌≤◌, Bool, true, false, not, cond, ◌||◌, ◌&&◌, Some, None, List, [], ◌∷◌, ◌++◌, length, take, drop, get_or, reverse, refl, ap, ◌∙◌, inl, inr, arith}
 use Rattle.std.specs.List.{list_all, prefix_len, position_or_len, suffix_len}
 use Rattle.std.proofs.lemmas.Bool.{cases_lt, ne_eqb, cond-false}
 use Rattle.std.proofs.lemmas.List.{length-reverse, get_or-reverse, get_or_past, get_or_default, reverse-append}
@@ -97,3 +97,17 @@ back-some xs e = elim (cases_lt 0 (back xs)) [
       let all : list_all is_blank xs ≡ true = list_all-from_AllPass is_blank xs (λ k d lt. rw (get_or_default xs k d 0 lt) (all-blank xs k none lt)) in
       absurd (cc (e, all))
 ]
+
+-- ---- what a test with an answer says
+
+pub and-none : (b : Bool) → (b && false) ≡ false
+and-none true = refl
+and-none false = refl
+
+pub cond-none : {X : Type 0} (b : Bool) (x : X) → None ≡ cond b (Some x) None → b ≡ false
+cond-none true x e = absurd cc
+cond-none false x e = refl
+
+pub cond-some : {X : Type 0} (b : Bool) (x y : X) → Some y ≡ cond b (Some x) None → (b ≡ true) × (y ≡ x)
+cond-some true x y e = (refl, cc)
+cond-some false x y e = absurd cc

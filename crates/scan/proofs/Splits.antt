@@ -5,12 +5,13 @@ use Rattle.std.proofs.lemmas.Bool.{lt-ltb, le-ltb, and_parts, cases_lt}
 use Rattle.std.proofs.lemmas.List.{length-take, length-drop}
 use Rattle.line_defs.specs.Numbers.{is_digit, number_of_digits}
 use Rattle.scan_defs.specs.declared.NumberFault.TheVariants.{NotNumber, OutOfRange}
-use Rattle.scan_defs.specs.Numbers.{is_whole, is_sign, is_minus, unsigned, signed, Decimal, is_mark, is_decimal_point, mantissa, exponent, has_exponent, whole_part, fraction, is_fixed, power, decimal_of, scaled, fixed_value, fixed_of}
+use Rattle.scan_defs.specs.Numbers.{is_whole, is_sign, is_minus, without_sign, with_sign, Decimal, is_mark, is_decimal_point, mantissa, exponent, has_exponent, whole_part, fraction, is_fixed, power, decimal_of, scaled, fixed_value, fixed_of}
 use Rattle.scan_defs.proofs.Huge.{value-is, value-out}
 use Rattle.scan.specs.declared.parts.Power.{Power}
 use Rattle.scan.specs.declared.parts.Parts.{Parts}
 use Rattle.scan.specs.Parts.{text_after_first, power_read, HasParts}
 use Rattle.scan.specs.Rounding.{in_range, magnitude_in_range}
+use Rattle.scan.proofs.Runs.{cond-none, cond-some}
 use Rattle.scan.proofs.Rounds.{in_range-some, in_range-none, magnitude-is}
 
 -- ---- whether there is an exponent
@@ -38,26 +39,18 @@ marks u = marks-at u (ltb (position_or_len is_mark u) (length u)) refl
 
 -- ---- tokens of another shape
 
-cond-none : {X : Type 0} (b : Bool) (x : X) → None ≡ cond b (Some x) None → b ≡ false
-cond-none true x e = absurd cc
-cond-none false x e = refl
-
-cond-some : {X : Type 0} (b : Bool) (x y : X) → Some y ≡ cond b (Some x) None → (b ≡ true) × (y ≡ x)
-cond-some true x y e = (refl, cc)
-cond-some false x y e = absurd cc
-
 pub not-digits : (token whole part : List ℕ) → whole ≡ whole_part token → part ≡ fraction token → is_whole (whole ++ part) ≡ false → is_fixed token ≡ false
 not-digits token whole part w f none =
     let e : is_whole (whole_part token ++ fraction token) ≡ false = rw (w, f) at none in
-    ap (λ b. b && (not (has_exponent token) || is_whole (unsigned (exponent token)))) e
+    ap (λ b. b && (not (has_exponent token) || is_whole (without_sign (exponent token)))) e
 
 fixed-at : (d h p : Bool) → d ≡ true → h ≡ true → p ≡ false → (d && (not h || p)) ≡ false
 fixed-at d h p a b c = rw (a, b, c) refl
 
-pub not-power : (token : List ℕ) → is_whole (whole_part token ++ fraction token) ≡ true → None ≡ power_read (text_after_first is_mark (unsigned token)) → is_fixed token ≡ false
-not-power token digits none = elim (marks (unsigned token)) [
+pub not-power : (token : List ℕ) → is_whole (whole_part token ++ fraction token) ≡ true → None ≡ power_read (text_after_first is_mark (without_sign token)) → is_fixed token ≡ false
+not-power token digits none = elim (marks (without_sign token)) [
   | inl free ↦ let e = rw free.1 at none in absurd (cc e)
-  | inr marked ↦ let e = rw marked.1 at none in fixed-at (is_whole (whole_part token ++ fraction token)) (has_exponent token) (is_whole (unsigned (exponent token))) digits marked.0 (cond-none (is_whole (unsigned (exponent token))) _ e)
+  | inr marked ↦ let e = rw marked.1 at none in fixed-at (is_whole (whole_part token ++ fraction token)) (has_exponent token) (is_whole (without_sign (exponent token))) digits marked.0 (cond-none (is_whole (without_sign (exponent token))) _ e)
 ]
 
 -- ---- tokens of this shape
@@ -65,9 +58,9 @@ not-power token digits none = elim (marks (unsigned token)) [
 -- the number after `e`, and how it was read
 pub record HasPower (token : List ℕ) (read : Power) : Type 0 where
   pub size : ℕ
-  pub value : power token ≡ signed read.minus size
+  pub value : power token ≡ with_sign read.minus size
   pub capped : read.size ≡ min size (2 ^ 64 - 1)
-  pub shape : (not (has_exponent token) || is_whole (unsigned (exponent token))) ≡ true
+  pub shape : (not (has_exponent token) || is_whole (without_sign (exponent token))) ≡ true
 
 shape-none : (h p : Bool) → h ≡ false → (not h || p) ≡ true
 shape-none h p e = rw e refl
@@ -82,8 +75,8 @@ value-none h x e = rw e refl
 value-some : (h : Bool) (x : ℤ) → h ≡ true → cond h x (pos 0) ≡ x
 value-some h x e = rw e refl
 
-pub power-is : (token : List ℕ) (read : Power) → Some read ≡ power_read (text_after_first is_mark (unsigned token)) → HasPower token read
-power-is token read e = elim (marks (unsigned token)) [
+pub power-is : (token : List ℕ) (read : Power) → Some read ≡ power_read (text_after_first is_mark (without_sign token)) → HasPower token read
+power-is token read e = elim (marks (without_sign token)) [
   | inl free ↦
       let s = rw free.1 at e in
       let r : read ≡ record { minus = false; size = 0 } = cc s in
@@ -91,25 +84,25 @@ power-is token read e = elim (marks (unsigned token)) [
         size = 0;
         value = value-none (has_exponent token) _ free.0 ∙ rw r refl;
         capped = rw r (omega arith);
-        shape = shape-none (has_exponent token) (is_whole (unsigned (exponent token))) free.0;
+        shape = shape-none (has_exponent token) (is_whole (without_sign (exponent token))) free.0;
       }
   | inr marked ↦
       let s = rw marked.1 at e in
-      let both = cond-some (is_whole (unsigned (exponent token))) (record { minus = is_minus (exponent token); size = min (number_of_digits (unsigned (exponent token))) (2 ^ 64 - 1) }) read s in
+      let both = cond-some (is_whole (without_sign (exponent token))) (record { minus = is_minus (exponent token); size = min (number_of_digits (without_sign (exponent token))) (2 ^ 64 - 1) }) read s in
       record {
-        size = number_of_digits (unsigned (exponent token));
+        size = number_of_digits (without_sign (exponent token));
         value = value-some (has_exponent token) _ marked.0 ∙ rw both.1 refl;
         capped = rw both.1 refl;
-        shape = shape-some (has_exponent token) (is_whole (unsigned (exponent token))) both.0;
+        shape = shape-some (has_exponent token) (is_whole (without_sign (exponent token))) both.0;
       }
 ]
 
 pub has-parts : (token : List ℕ) (parts : Parts) → parts.minus ≡ is_minus token → parts.whole.now ≡ whole_part token → parts.fraction.now ≡ fraction token
-    → is_whole (parts.whole.now ++ parts.fraction.now) ≡ true → Some parts.power ≡ power_read (text_after_first is_mark (unsigned token)) → HasParts token parts
+    → is_whole (parts.whole.now ++ parts.fraction.now) ≡ true → Some parts.power ≡ power_read (text_after_first is_mark (without_sign token)) → HasParts token parts
 has-parts token parts m w f digits p =
     let e : is_whole (whole_part token ++ fraction token) ≡ true = rw (w, f) at digits in
     record {
-      fixed = both-true (is_whole (whole_part token ++ fraction token)) (not (has_exponent token) || is_whole (unsigned (exponent token))) e (power-is token parts.power p).shape;
+      fixed = both-true (is_whole (whole_part token ++ fraction token)) (not (has_exponent token) || is_whole (without_sign (exponent token))) e (power-is token parts.power p).shape;
       minus = m;
       whole = w;
       fraction = f;
@@ -121,9 +114,9 @@ has-parts token parts m w f digits p =
 
 -- ---- lengths
 
-length-unsigned : (token : List ℕ) → length (unsigned token) ≤ length token
-length-unsigned [] = omega arith
-length-unsigned (b ∷ bs) = at (is_sign b)
+length-without_sign : (token : List ℕ) → length (without_sign token) ≤ length token
+length-without_sign [] = omega arith
+length-without_sign (b ∷ bs) = at (is_sign b)
   where
     at : (c : Bool) → length (cond c bs (b ∷ bs)) ≤ length (b ∷ bs)
     at true = omega arith
@@ -137,8 +130,8 @@ length-both test xs =
 
 pub length-parts : (token : List ℕ) → length (whole_part token) + length (fraction token) ≤ length token
 length-parts token =
-    let a = length-unsigned token in
-    let b = length-both is_mark (unsigned token) in
+    let a = length-without_sign token in
+    let b = length-both is_mark (without_sign token) in
     let c = length-both is_decimal_point (mantissa token) in
     omega (arith, a, b, c)
 
@@ -146,7 +139,7 @@ length-parts token =
 
 pub digits-of : (token : List ℕ) (parts : Parts) → HasParts token parts → list_all is_digit (parts.whole.now ++ parts.fraction.now) ≡ true
 digits-of token parts h =
-    let both = and_parts (is_whole (whole_part token ++ fraction token)) (not (has_exponent token) || is_whole (unsigned (exponent token))) h.fixed in
+    let both = and_parts (is_whole (whole_part token ++ fraction token)) (not (has_exponent token) || is_whole (without_sign (exponent token))) h.fixed in
     rw (h.whole, h.fraction) (and_parts (leb 1 (length (whole_part token ++ fraction token))) (list_all is_digit (whole_part token ++ fraction token)) both.0).1
 
 -- the parts as the definition has them
@@ -163,7 +156,7 @@ magnitude-exact token parts h short =
     let p = power-is token parts.power h.power in
     let all = digits-of token parts h in
     let n = length-parts token in
-    let e : in_range (scaled (number_of_digits (whole_part token ++ fraction token)) ((signed parts.power.minus p.size -ℤ pos (length (fraction token))) +ℤ pos 10))
+    let e : in_range (scaled (number_of_digits (whole_part token ++ fraction token)) ((with_sign parts.power.minus p.size -ℤ pos (length (fraction token))) +ℤ pos 10))
     ≡ magnitude_in_range (whole_part token) (fraction token) (record { minus = parts.power.minus; size = min p.size (2 ^ 64 - 1) })
     = magnitude-is (whole_part token) (fraction token) parts.power.minus p.size (rw (h.whole, h.fraction) at all) (omega arith) in
     rw (p.value, h.whole, h.fraction) (e ∙ ap (λ (s : ℕ). magnitude_in_range (whole_part token) (fraction token) (record { minus = parts.power.minus; size = s })) (sym p.capped))
@@ -176,7 +169,7 @@ pub fixed-out : (token : List ℕ) (parts : Parts) → HasParts token parts → 
 fixed-out token parts h short none = decimal-is token h.fixed ∙ value-out (decimal-from token) (in_range-none _ (none ∙ sym (magnitude-exact token parts h short)))
 
 pub fixed-some : (token : List ℕ) (parts : Parts) (n : ℕ) → HasParts token parts → length token < 2 ^ 63 → Some n ≡ magnitude_in_range parts.whole.now parts.fraction.now parts.power
-    → (n ≤ 9 * 10 ^ 18) × (fixed_of token ≡ Ok (signed parts.minus n))
+    → (n ≤ 9 * 10 ^ 18) × (fixed_of token ≡ Ok (with_sign parts.minus n))
 fixed-some token parts n h short some =
     let r = in_range-some _ n (some ∙ sym (magnitude-exact token parts h short)) in
     let le : n ≤ 9 * 10 ^ 18 = rw (← r.0) at r.1 in

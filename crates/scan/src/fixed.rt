@@ -3,16 +3,16 @@
 ghost use Rattle.std.specs.Prelude.{◌≡◌, ◌+◌, ◌*◌, ◌<◌, ◌≤◌, ◌^◌, length, IsTrue};
 ghost use Rattle.std.specs.List.{list_all};
 ghost use Rattle.line_defs.specs.Numbers.{is_digit};
-ghost use Rattle.scan_defs.specs.Numbers.{signed, fixed_of};
+ghost use Rattle.scan_defs.specs.Numbers.{with_sign, fixed_of};
 ghost use Rattle.scan.specs.Rounding.{kept_places, magnitude_in_range};
 
 use crate::parts::{Parts, Power, split_parts};
-use crate::rounding::rounded;
+use crate::rounding::kept_value;
 use scan_defs::NumberFault;
 
 /// How many digits a number keeps in 10^-10, of which `whole` stand before the point; none where
 /// that is below 0.
-fn kept(whole: u64, power: Power) -> Option<u64>
+fn kept_places(whole: u64, power: Power) -> Option<u64>
     requires { whole < 2 ^ 63 }
     ensures { result ≡ kept_places whole power }
 {
@@ -32,16 +32,16 @@ fn magnitude(parts: Parts<'_>) -> Option<u64>
     requires fraction { IsTrue (list_all is_digit parts.fraction.now) }
     ensures { result ≡ magnitude_in_range parts.entry.whole.now parts.entry.fraction.now parts.entry.power }
 {
-    match kept(parts.whole.len() as u64, parts.power) {
-        Some(keep) => rounded(parts.whole, parts.fraction, keep),
+    match kept_places(parts.whole.len() as u64, parts.power) {
+        Some(keep) => kept_value(parts.whole, parts.fraction, keep),
         None => Some(0),
     }
 }
 
 /// A value with its sign.
-fn signed(minus: bool, magnitude: u64) -> i64
+fn with_sign(minus: bool, magnitude: u64) -> i64
     requires { magnitude ≤ 9 * 10 ^ 18 }
-    ensures { result ≡ signed minus magnitude }
+    ensures { result ≡ with_sign minus magnitude }
 {
     let value = magnitude as i64;
     if minus { -value } else { value }
@@ -61,7 +61,7 @@ pub fn read_fixed(t: &[u8]) -> Result<i64, NumberFault>
         return Err(NumberFault::NotNumber);
     };
     match magnitude(parts) {
-        Some(magnitude) => Ok(signed(parts.minus, magnitude)),
+        Some(magnitude) => Ok(with_sign(parts.minus, magnitude)),
         None => Err(NumberFault::OutOfRange),
     }
 }

@@ -44,7 +44,7 @@ fn with_zeros(number: u64, count: u64) -> Option<u64>
 }
 
 /// The first digits, at most so many.
-fn first(digits: &[u8], count: u64) -> &[u8]
+fn first_digits(digits: &[u8], count: u64) -> &[u8]
     ensures { result.now ≡ take count digits.now }
 {
     if count < digits.len() as u64 {
@@ -70,7 +70,7 @@ fn digit_at(whole: &[u8], fraction: &[u8], place: u64) -> u8
 
 /// The first `keep` digits of `whole` and then `fraction` as a number, rounded by the digit after
 /// them; zeros stand after all digits. None where that is out of range.
-pub fn rounded(whole: &[u8], fraction: &[u8], keep: u64) -> Option<u64>
+pub fn kept_value(whole: &[u8], fraction: &[u8], keep: u64) -> Option<u64>
     requires length { length whole.now + length fraction.now < 2 ^ 64 }
     requires whole { IsTrue (list_all is_digit whole.now) }
     requires fraction { IsTrue (list_all is_digit fraction.now) }
@@ -78,8 +78,8 @@ pub fn rounded(whole: &[u8], fraction: &[u8], keep: u64) -> Option<u64>
 {
     let in_whole = whole.len() as u64;
     let digits = in_whole + fraction.len() as u64;
-    let kept = with_digits(0, first(whole, keep))?;
-    let kept = with_digits(kept, first(fraction, keep.saturating_sub(in_whole)))?;
+    let kept = with_digits(0, first_digits(whole, keep))?;
+    let kept = with_digits(kept, first_digits(fraction, keep.saturating_sub(in_whole)))?;
     let kept = with_zeros(kept, keep.saturating_sub(digits))?;
     if digit_at(whole, fraction, keep) < b'5' {
         return Some(kept);

@@ -2,7 +2,7 @@
 
 ghost use Rattle.std.specs.Prelude.{◌≡◌, ◌-◌, ◌^◌, min, if◌then◌else◌, Some, None};
 ghost use Rattle.line_defs.specs.Numbers.{is_digit, number_of_digits};
-ghost use Rattle.scan_defs.specs.Numbers.{is_whole, is_minus, unsigned, uint_of, int_of};
+ghost use Rattle.scan_defs.specs.Numbers.{is_whole, is_minus, without_sign, uint_of, int_of};
 
 use scan_defs::NumberFault;
 
@@ -35,7 +35,7 @@ pub fn number_up_to_most(digits: &[u8]) -> Option<u64>
 /// Whether a token begins with `-`, and what stands after a `-` or `+`.
 pub fn split_sign(token: &[u8]) -> (bool, &[u8])
     ensures minus { result.0 ≡ is_minus token.now }
-    ensures rest { result.1.now ≡ unsigned token.now }
+    ensures rest { result.1.now ≡ without_sign token.now }
 {
     match token {
         [b'-', rest @ ..] => (true, rest),

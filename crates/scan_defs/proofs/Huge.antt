@@ -10,7 +10,7 @@ use Rattle.std.proofs.lemmas.Nat.{mul-le}
 use Rattle.std.proofs.Math.Nat.{pow-le-pow_right, pow-suc, zero-mul, div-eq_of_lt}
 use Rattle.line_defs.specs.Numbers.{is_digit, number_of_digits}
 use Rattle.scan_defs.specs.declared.NumberFault.TheVariants.{OutOfRange}
-use Rattle.scan_defs.specs.Numbers.{Decimal, scaled, signed, magnitude, fixed_value}
+use Rattle.scan_defs.specs.Numbers.{Decimal, scaled, with_sign, magnitude, fixed_value}
 
 pub ten_pow-pos : (k : ℕ) → 1 ≤ 10 ^ k
 ten_pow-pos k = let le : 0 ≤ k = omega arith in pow-le-pow_right (omega arith) le
@@ -49,7 +49,7 @@ number_of_digits-lt ds all = let h = number_lt 10 (map (λ b. b - 48) ds) (digit
 -- ---- values
 
 -- within range
-pub value-is : (x : Decimal) (n : ℕ) → magnitude x ≡ n → n ≤ 9 * 10 ^ 18 → fixed_value x ≡ Ok (signed x.minus n)
+pub value-is : (x : Decimal) (n : ℕ) → magnitude x ≡ n → n ≤ 9 * 10 ^ 18 → fixed_value x ≡ Ok (with_sign x.minus n)
 unfolding fixed_value
 value-is x n e le = rw (e, le-leb n (9 * 10 ^ 18) le) refl
 
@@ -57,15 +57,15 @@ pub value-out : (x : Decimal) → 9 * 10 ^ 18 < magnitude x → fixed_value x �
 unfolding fixed_value
 value-out x lt = rw (lt-leb (magnitude x) (9 * 10 ^ 18) lt) refl
 
-signed-zero : (minus : Bool) → signed minus 0 ≡ pos 0
-signed-zero true = refl
-signed-zero false = refl
+with_sign-zero : (minus : Bool) → with_sign minus 0 ≡ pos 0
+with_sign-zero true = refl
+with_sign-zero false = refl
 
 -- digits that are all 0 write the value 0, whatever the exponent
 pub zero_at_any_exponent : (x : Decimal) → number_of_digits x.digits ≡ 0 → fixed_value x ≡ Ok (pos 0)
 zero_at_any_exponent x e =
     let z : magnitude x ≡ 0 = ap (λ m. scaled m (x.exponent +ℤ pos 10)) e ∙ scaled-zero (x.exponent +ℤ pos 10) in
-    value-is x 0 z (omega arith) ∙ ap Ok (signed-zero x.minus)
+    value-is x 0 z (omega arith) ∙ ap Ok (with_sign-zero x.minus)
 
 -- other digits are out of range from 10^9 on
 pub out_of_range_far_above : (x : Decimal) (e : ℕ) → x.exponent ≡ pos e → 9 ≤ e → 1 ≤ number_of_digits x.digits → fixed_value x ≡ Err OutOfRange
@@ -80,4 +80,4 @@ zero_far_below x e is far all =
     let p : 10 ^ (length x.digits + 1) ≤ 10 ^ ((e - 10) + 1) = pow-le-pow_right (omega arith) le in
     let s : 10 ^ (length x.digits + 1) ≡ 10 ^ length x.digits * 10 = rw (add-one) (pow-suc 10 (length x.digits)) in
     let z : magnitude x ≡ 0 = ap (scaled (number_of_digits x.digits)) k ∙ scaled-small (number_of_digits x.digits) (e - 10) (omega arith) in
-    value-is x 0 z (omega arith) ∙ ap Ok (signed-zero x.minus)
+    value-is x 0 z (omega arith) ∙ ap Ok (with_sign-zero x.minus)

@@ -19,12 +19,12 @@ abbrev pub is_minus : List ℕ → Bool
 is_minus token = get_or token 0 0 == 45
 
 -- without one sign in front
-abbrev pub unsigned : List ℕ → List ℕ
-unsigned [] = []
-unsigned (b ∷ bs) = if is_sign b then bs else (b ∷ bs)
+abbrev pub without_sign : List ℕ → List ℕ
+without_sign [] = []
+without_sign (b ∷ bs) = if is_sign b then bs else (b ∷ bs)
 
-abbrev pub signed : Bool → ℕ → ℤ
-signed minus n = if minus then neg_ℤ (pos n) else pos n
+abbrev pub with_sign : Bool → ℕ → ℤ
+with_sign minus n = if minus then neg_ℤ (pos n) else pos n
 
 -- an unsigned number, of 32 bits
 unfoldable pub uint_of : List ℕ → Result ℕ NumberFault
@@ -36,9 +36,9 @@ uint_of token =
 -- a signed number, of 32 bits
 unfoldable pub int_of : List ℕ → Result ℤ NumberFault
 int_of token =
-    if is_whole (unsigned token)
-    then (if nat_le (number_of_digits (unsigned token)) (if is_minus token then 2147483648 else 2147483647)
-    then Ok (signed (is_minus token) (number_of_digits (unsigned token)))
+    if is_whole (without_sign token)
+    then (if nat_le (number_of_digits (without_sign token)) (if is_minus token then 2147483648 else 2147483647)
+    then Ok (with_sign (is_minus token) (number_of_digits (without_sign token)))
     else Err OutOfRange)
     else Err NotNumber
 
@@ -60,13 +60,13 @@ is_decimal_point b = b == 46
 
 -- before the exponent, without the sign; and the exponent, with its sign
 abbrev pub mantissa : List ℕ → List ℕ
-mantissa token = before_first is_mark (unsigned token)
+mantissa token = before_first is_mark (without_sign token)
 
 abbrev pub exponent : List ℕ → List ℕ
-exponent token = after_first is_mark (unsigned token)
+exponent token = after_first is_mark (without_sign token)
 
 abbrev pub has_exponent : List ℕ → Bool
-has_exponent token = list_any is_mark (unsigned token)
+has_exponent token = list_any is_mark (without_sign token)
 
 -- the digits before the point, and those after it
 abbrev pub whole_part : List ℕ → List ℕ
@@ -78,11 +78,11 @@ fraction token = after_first is_decimal_point (mantissa token)
 -- An optional sign, then digits with at most one point among, before or after them and at least one digit, then
 -- optionally `e` or `E`, an optional sign and at least one digit.
 abbrev pub is_fixed : List ℕ → Bool
-is_fixed token = is_whole (whole_part token ++ fraction token) && (not (has_exponent token) || is_whole (unsigned (exponent token)))
+is_fixed token = is_whole (whole_part token ++ fraction token) && (not (has_exponent token) || is_whole (without_sign (exponent token)))
 
 -- the number after `e`, or 0
 abbrev pub power : List ℕ → ℤ
-power token = if has_exponent token then signed (is_minus (exponent token)) (number_of_digits (unsigned (exponent token))) else pos 0
+power token = if has_exponent token then with_sign (is_minus (exponent token)) (number_of_digits (without_sign (exponent token))) else pos 0
 
 unfoldable pub decimal_of : List ℕ → Option Decimal
 decimal_of token =
@@ -101,7 +101,7 @@ magnitude x = scaled (number_of_digits x.digits) (x.exponent +ℤ pos 10)
 
 -- at most 900,000,000
 unfoldable pub fixed_value : Decimal → Result ℤ NumberFault
-fixed_value x = if nat_le (magnitude x) (9 * 10 ^ 18) then Ok (signed x.minus (magnitude x)) else Err OutOfRange
+fixed_value x = if nat_le (magnitude x) (9 * 10 ^ 18) then Ok (with_sign x.minus (magnitude x)) else Err OutOfRange
 
 abbrev pub fixed_where : Option Decimal → Result ℤ NumberFault
 fixed_where None = Err NotNumber
