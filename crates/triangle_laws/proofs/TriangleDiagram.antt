@@ -25,6 +25,7 @@ use Rattle.mesh_laws.proofs.Firsts.{shown_among_firsts, find-firsts, firsts-fres
 use Rattle.mesh_laws.proofs.Turns.{relative-vertex}
 use Rattle.mesh_laws.proofs.Entries.{entry_among-bounds}
 use Rattle.mesh_laws.proofs.Containing.{shows-vertex, chart-all}
+use Rattle.mesh_laws.proofs.Vertices.{vertex_below, vertex_place, vertex_found}
 
 -- ---- the sights of triangles
 
