@@ -9,9 +9,9 @@ use Rattle.plain_lists.proofs.Each.{all_from, all_weaker, all_both, all_map, all
 use Rattle.plain_lists.proofs.Finding.{any_map, stands, found-any}
 use Rattle.mesh_defs.specs.Tables.{Facet, dim_of, facets_of, edges_of}
 use Rattle.mesh_defs.specs.Mesh.{Mesh, Cell, placed_cells}
-use Rattle.mesh_defs.specs.Points.{Point, Sight, point_of, shows, sights_of, sights, vertex_sight, vertex_sights, contains}
+use Rattle.mesh_defs.specs.Points.{Point, Sight, point_of, shows, sights_of, sights, vertex_sight, vertex_sights, contains, cell_face}
 use Rattle.mesh_defs.specs.Diagram.{stratum, strata, chart}
-use Rattle.mesh_laws.proofs.Containing.{sights_of-any_place, chart-all}
+use Rattle.mesh_laws.proofs.Containing.{sights_of-any_place, chart-all, all_sights_of}
 use Rattle.mesh_laws.proofs.Firsts.{shows-true}
 use Rattle.mesh_laws.proofs.Vertices.{vertex_found}
 use Rattle.rank_laws.specs.Conditions.{IsSoundCell, IsSoundMesh, in_some}
@@ -36,29 +36,12 @@ module _ (m : Mesh) where
   HasLevel s = (dim_of s.poly ≡ m.dim) ⊎ ((dim_of s.poly ≡ 1) ⊎ ((dim_of s.poly ≡ 2) × (m.dim ≡ 3)))
 
   levels : (c : ℕ) (cell : Cell) → IsSoundCell m cell → AllByRecursion HasLevel (sights_of (c, cell))
-  unfolding sights_of
-  levels c cell good = (
-    inl good.dim,
-    all_append HasLevel (faces (dim_of cell.poly == 3)) (map edge (enumerate_from 0 (edges_of cell.poly))) (faces-level (dim_of cell.poly == 3) refl)
-        (all_map HasLevel edge (enumerate_from 0 (edges_of cell.poly)) (all_from _ (λ e. inr (inl refl)) (enumerate_from 0 (edges_of cell.poly)))),
-  )
-    where
-      face : ℕ × Facet → Sight
-      face f = record { key = 64 * c + 1 + f.0; poly = f.1.poly; arrangement = picked cell.vertices f.1.corners }
-
-      edge : ℕ × List ℕ → Sight
-      edge e = record { key = 64 * c + 8 + e.0; poly = Segment; arrangement = picked cell.vertices e.1 }
-
-      faces : Bool → List Sight
-      faces b = cond b (map face (enumerate_from 0 (facets_of cell.poly))) []
-
-      faces-level : (b : Bool) → (dim_of cell.poly == 3) ≡ b → AllByRecursion HasLevel (faces b)
-      faces-level false e = tt
-      faces-level true e = all_map HasLevel face (enumerate_from 0 (facets_of cell.poly))
-          (all_weaker (λ (f : ℕ × Facet). is_face_of cell.poly f.1 ≡ true) (λ f. HasLevel (face f))
-          (λ f h. inr (inr (eqb-true (dim_of f.1.poly) 2 (and_parts _ _ (and_parts _ _ h).0).1, sym good.dim ∙ eqb-true (dim_of cell.poly) 3 e)))
-          (enumerate_from 0 (facets_of cell.poly))
-          (all_enumerated (λ f. is_face_of cell.poly f ≡ true) 0 (facets_of cell.poly) (each_passes (is_face_of cell.poly) (facets_of cell.poly) (facets-are_faces cell.poly (eqb-true (dim_of cell.poly) 3 e)))))
+  levels c cell good = all_sights_of HasLevel c cell (inl good.dim)
+      (λ solid. all_weaker (λ (f : ℕ × Facet). is_face_of cell.poly f.1 ≡ true) (λ f. HasLevel (cell_face c cell f))
+      (λ f h. inr (inr (eqb-true (dim_of f.1.poly) 2 (and_parts _ _ (and_parts _ _ h).0).1, sym good.dim ∙ solid)))
+      (enumerate_from 0 (facets_of cell.poly))
+      (all_enumerated (λ f. is_face_of cell.poly f ≡ true) 0 (facets_of cell.poly) (each_passes (is_face_of cell.poly) (facets_of cell.poly) (facets-are_faces cell.poly solid))))
+      (all_from _ (λ e. inr (inl refl)) (enumerate_from 0 (edges_of cell.poly)))
 
 module _ (m : Mesh) (sound : IsSoundMesh m) (p : Point) where
   -- a point that cells see at such a level is shown

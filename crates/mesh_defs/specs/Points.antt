@@ -4,7 +4,7 @@ use Rattle.std.specs.List.{list_any, enumerate_from}
 use Rattle.mesh_defs.specs.declared.Poly.{Poly}
 use Rattle.mesh_defs.specs.declared.Poly.TheVariants.{Vertex, Segment}
 use Rattle.plain_lists.specs.Lists.{below, same_list, sorted, picked}
-use Rattle.mesh_defs.specs.Tables.{dim_of, edges_of, facets_of}
+use Rattle.mesh_defs.specs.Tables.{Facet, dim_of, edges_of, facets_of}
 use Rattle.mesh_defs.specs.Mesh.{Mesh, Cell, placed_cells}
 
 -- a point is a dimension and a set of vertices, as a rising list
@@ -40,12 +40,26 @@ sight k p vertices = record { key = k; poly = p; arrangement = vertices }
 abbrev pub vertex_sight : ℕ → Sight
 vertex_sight v = sight v Vertex (v ∷ [])
 
+-- cell c as it sees itself, a face and an edge of it as it sees them, by their places in its table
+abbrev pub cell_sight : ℕ → Cell → Sight
+cell_sight c cell = sight (64 * c) cell.poly cell.vertices
+
+abbrev pub cell_face : ℕ → Cell → ℕ × Facet → Sight
+cell_face c cell f = sight (64 * c + 1 + f.0) f.1.poly (picked cell.vertices f.1.corners)
+
+abbrev pub cell_edge : ℕ → Cell → ℕ × List ℕ → Sight
+cell_edge c cell e = sight (64 * c + 8 + e.0) Segment (picked cell.vertices e.1)
+
+-- the faces of a solid, and no other cell's
+abbrev pub cell_faces : ℕ → Cell → List Sight
+cell_faces c cell = if dim_of cell.poly == 3 then map (cell_face c cell) (enumerate_from 0 (facets_of cell.poly)) else []
+
+abbrev pub cell_edges : ℕ → Cell → List Sight
+cell_edges c cell = map (cell_edge c cell) (enumerate_from 0 (edges_of cell.poly))
+
 -- what a cell contains beside its vertices, by its table: itself, the faces of a solid, and its edges
 unfoldable pub sights_of : ℕ × Cell → List Sight
-sights_of (c, cell) =
-    sight (64 * c) cell.poly cell.vertices
-    ∷ ((if dim_of cell.poly == 3 then map (λ f. sight (64 * c + 1 + f.0) f.1.poly (picked cell.vertices f.1.corners)) (enumerate_from 0 (facets_of cell.poly)) else [])
-    ++ map (λ e. sight (64 * c + 8 + e.0) Segment (picked cell.vertices e.1)) (enumerate_from 0 (edges_of cell.poly)))
+sights_of (c, cell) = cell_sight c cell ∷ (cell_faces c cell ++ cell_edges c cell)
 
 -- what a list of cells sees, by rising key
 abbrev pub sights : List (ℕ × Cell) → List Sight

@@ -1,19 +1,41 @@
 -- Every point of a mesh stands in a cell, where every vertex does.
-use Rattle.std.proofs.Common.{◌≡◌, ℕ, zero, suc, ◌+◌, ◌*◌, ◌<◌, Bool, true, false, cond, ◌||◌, ◌&&◌, ◌==◌, List, [], ◌∷◌, ◌++◌, map, length, refl, sym, ap, ◌∙◌, ap₂, length-append, arith}
+use Rattle.std.proofs.Common.{◌≡◌, ℕ, zero, suc, ◌+◌, ◌*◌, ◌<◌, Bool, true, false, cond, ◌||◌, ◌&&◌, ◌==◌, List, [], ◌∷◌, ◌++◌, map, length, refl, sym, ap, ◌∙◌, ap₂, length-append, arith, subst}
 use Rattle.std.specs.List.{list_any, AllByRecursion, filter, enumerate_from}
-use Rattle.std.proofs.lemmas.Bool.{or_left, or_right, eqb-true, eq-eqb}
+use Rattle.std.proofs.lemmas.Bool.{or_left, or_right, eqb-true, eq-eqb, cond-true}
 use Rattle.std.proofs.lemmas.List.Folds.{list_any-append}
 use Rattle.mesh_defs.specs.declared.Poly.TheVariants.{Segment}
 use Rattle.plain_lists.specs.Lists.{below, sorted, picked}
-use Rattle.plain_lists.proofs.Each.{all_weaker, all_append, all_map, all_filter}
+use Rattle.plain_lists.proofs.Each.{all_weaker, all_append, all_map, all_filter, all_mapped, all_append_first}
 use Rattle.plain_lists.proofs.Filters.{filter_whole}
 use Rattle.plain_lists.proofs.Finding.{any_same, any_map, any_enumerated, any_weaker, same_tests}
 use Rattle.plain_lists.proofs.Below.{below-all}
 use Rattle.mesh_defs.specs.Tables.{Facet, dim_of, facets_of, edges_of}
 use Rattle.mesh_defs.specs.Mesh.{Mesh, Cell, placed_cells}
-use Rattle.mesh_defs.specs.Points.{Point, Sight, same_point, point_on, point_of, shows, sights_of, sights, vertex_sight, vertex_sights, contains}
+use Rattle.mesh_defs.specs.Points.{Point, Sight, cell_sight, cell_face, cell_edge, cell_faces, cell_edges, same_point, point_on, point_of, shows, sights_of, sights, vertex_sight, vertex_sights, contains}
 use Rattle.mesh_defs.specs.Diagram.{firsts, stratum, strata, chart}
 use Rattle.mesh_laws.proofs.Firsts.{shown_itself, firsts-all}
+
+-- ---- what all sights of a cell have
+
+-- what the cell itself, the faces of a solid and the edges have
+pub all_sights_of : (P : Sight → Type 0) (c : ℕ) (cell : Cell) → P (cell_sight c cell)
+    → (dim_of cell.poly ≡ 3 → AllByRecursion (λ f. P (cell_face c cell f)) (enumerate_from 0 (facets_of cell.poly)))
+    → AllByRecursion (λ e. P (cell_edge c cell e)) (enumerate_from 0 (edges_of cell.poly)) → AllByRecursion P (sights_of (c, cell))
+unfolding sights_of
+all_sights_of P c cell own faces edges = (
+  own,
+  all_append P (cell_faces c cell) (cell_edges c cell) (go (dim_of cell.poly == 3) (λ e. faces (eqb-true (dim_of cell.poly) 3 e))) (all_map P (cell_edge c cell) (enumerate_from 0 (edges_of cell.poly)) edges),
+)
+  where
+    go : (b : Bool) → (b ≡ true → AllByRecursion (λ f. P (cell_face c cell f)) (enumerate_from 0 (facets_of cell.poly))) → AllByRecursion P (cond b (map (cell_face c cell) (enumerate_from 0 (facets_of cell.poly))) [])
+    go false h = tt
+    go true h = all_map P (cell_face c cell) (enumerate_from 0 (facets_of cell.poly)) (h refl)
+
+-- the faces of a solid have it
+pub all_faces_of : (P : Sight → Type 0) (c : ℕ) (cell : Cell) → dim_of cell.poly ≡ 3 → AllByRecursion P (sights_of (c, cell)) → AllByRecursion (λ f. P (cell_face c cell f)) (enumerate_from 0 (facets_of cell.poly))
+unfolding sights_of
+all_faces_of P c cell solid h = all_mapped P (cell_face c cell) (enumerate_from 0 (facets_of cell.poly))
+    (subst (AllByRecursion P) (cond-true (dim_of cell.poly == 3) (map (cell_face c cell) (enumerate_from 0 (facets_of cell.poly))) [] (eq-eqb (dim_of cell.poly) 3 solid)) (all_append_first P (cell_faces c cell) (cell_edges c cell) h.1))
 
 -- ---- what a cell contains
 
@@ -23,10 +45,7 @@ unfolding sights_of
 sights_of-any_place p c d cell = without c (dim_of cell.poly == 3) ∙ sym (without d (dim_of cell.poly == 3))
   where
     faces : ℕ → Bool → List Sight
-    faces k b = cond b (map (λ (f : ℕ × Facet). record { key = 64 * k + 1 + f.0; poly = f.1.poly; arrangement = picked cell.vertices f.1.corners }) (enumerate_from 0 (facets_of cell.poly))) []
-
-    edges : ℕ → List Sight
-    edges k = map (λ (e : ℕ × List ℕ). record { key = 64 * k + 8 + e.0; poly = Segment; arrangement = picked cell.vertices e.1 }) (enumerate_from 0 (edges_of cell.poly))
+    faces k b = cond b (map (cell_face k cell) (enumerate_from 0 (facets_of cell.poly))) []
 
     face : Bool → Bool
     face b = cond b (list_any (λ (f : ℕ × Facet). same_point p (point_on f.1.poly (picked cell.vertices f.1.corners))) (enumerate_from 0 (facets_of cell.poly))) false
@@ -35,13 +54,13 @@ sights_of-any_place p c d cell = without c (dim_of cell.poly == 3) ∙ sym (with
     edge = list_any (λ (e : ℕ × List ℕ). same_point p (point_on Segment (picked cell.vertices e.1))) (enumerate_from 0 (edges_of cell.poly))
 
     face_without : (k : ℕ) (b : Bool) → list_any (shows p) (faces k b) ≡ face b
-    face_without k true = any_map (shows p) (λ (f : ℕ × Facet). record { key = 64 * k + 1 + f.0; poly = f.1.poly; arrangement = picked cell.vertices f.1.corners }) (enumerate_from 0 (facets_of cell.poly))
+    face_without k true = any_map (shows p) (cell_face k cell) (enumerate_from 0 (facets_of cell.poly))
     face_without k false = refl
 
-    without : (k : ℕ) (b : Bool) → (same_point p (point_on cell.poly cell.vertices) || list_any (shows p) (faces k b ++ edges k)) ≡ (same_point p (point_on cell.poly cell.vertices) || (face b || edge))
+    without : (k : ℕ) (b : Bool) → (same_point p (point_on cell.poly cell.vertices) || list_any (shows p) (faces k b ++ cell_edges k cell)) ≡ (same_point p (point_on cell.poly cell.vertices) || (face b || edge))
     without k b = ap (λ t. same_point p (point_on cell.poly cell.vertices) || t)
-        (list_any-append (shows p) (faces k b) (edges k)
-        ∙ ap₂ (λ s t. s || t) (face_without k b) (any_map (shows p) (λ (e : ℕ × List ℕ). record { key = 64 * k + 8 + e.0; poly = Segment; arrangement = picked cell.vertices e.1 }) (enumerate_from 0 (edges_of cell.poly))))
+        (list_any-append (shows p) (faces k b) (cell_edges k cell)
+        ∙ ap₂ (λ s t. s || t) (face_without k b) (any_map (shows p) (cell_edge k cell) (enumerate_from 0 (edges_of cell.poly))))
 
 -- each sight of a cell is contained in it
 sights_of-contained : (c : ℕ) (cell : Cell) → AllByRecursion (λ s. contains cell (point_of s) ≡ true) (sights_of (c, cell))

@@ -11,7 +11,7 @@ use Rattle.plain_lists.proofs.Each.{all_map, all_from, all_weaker, all_at}
 use Rattle.mesh_defs.specs.Tables.{Facet, dim_of, facets_of, edges_of}
 use Rattle.mesh_defs.specs.Orientation.{act, relative}
 use Rattle.mesh_defs.specs.Mesh.{Mesh, Cell, placed_cells}
-use Rattle.mesh_defs.specs.Points.{Point, Sight, point_on, shows, sights_of, sights, vertex_sight, vertex_sights, first_sight, key, arrangement}
+use Rattle.mesh_defs.specs.Points.{Point, Sight, point_on, shows, sights_of, sights, vertex_sight, vertex_sights, first_sight, key, arrangement, cell_face, cell_edge, cell_edges}
 use Rattle.mesh_defs.specs.Diagram.{seen_under}
 use Rattle.mesh_laws.proofs.Turns.{relative-carries}
 
@@ -66,24 +66,15 @@ pub sights_of-rise : (c : ℕ) (cell : Cell) → Rises (64 * c) (64 * c + 64) (s
 unfolding sights_of
 sights_of-rise c cell = (
   omega arith,
-  rises-append (64 * c + 1) (64 * c + 8) (64 * c + 64) (faces (dim_of cell.poly == 3)) edges (faces-rise (dim_of cell.poly == 3))
-      (rises-wider (64 * c + 8 + 0) (64 * c + 8) (64 * c + 8 + 0 + length (edges_of cell.poly)) (64 * c + 64) edges (omega arith) (omega (arith, few_edges cell.poly)) (rises-numbered (64 * c + 8) edge (λ e. refl) 0 (edges_of cell.poly))),
+  rises-append (64 * c + 1) (64 * c + 8) (64 * c + 64) (faces (dim_of cell.poly == 3)) (cell_edges c cell) (faces-rise (dim_of cell.poly == 3))
+      (rises-wider (64 * c + 8 + 0) (64 * c + 8) (64 * c + 8 + 0 + length (edges_of cell.poly)) (64 * c + 64) (cell_edges c cell) (omega arith) (omega (arith, few_edges cell.poly)) (rises-numbered (64 * c + 8) (cell_edge c cell) (λ e. refl) 0 (edges_of cell.poly))),
 )
   where
-    face : ℕ × Facet → Sight
-    face f = record { key = 64 * c + 1 + f.0; poly = f.1.poly; arrangement = picked cell.vertices f.1.corners }
-
-    edge : ℕ × List ℕ → Sight
-    edge e = record { key = 64 * c + 8 + e.0; poly = Segment; arrangement = picked cell.vertices e.1 }
-
     faces : Bool → List Sight
-    faces b = cond b (map face (enumerate_from 0 (facets_of cell.poly))) []
-
-    edges : List Sight
-    edges = map edge (enumerate_from 0 (edges_of cell.poly))
+    faces b = cond b (map (cell_face c cell) (enumerate_from 0 (facets_of cell.poly))) []
 
     faces-rise : (b : Bool) → Rises (64 * c + 1) (64 * c + 8) (faces b)
-    faces-rise true = rises-wider (64 * c + 1 + 0) (64 * c + 1) (64 * c + 1 + 0 + length (facets_of cell.poly)) (64 * c + 8) (faces true) (omega arith) (omega (arith, few_facets cell.poly)) (rises-numbered (64 * c + 1) face (λ e. refl) 0 (facets_of cell.poly))
+    faces-rise true = rises-wider (64 * c + 1 + 0) (64 * c + 1) (64 * c + 1 + 0 + length (facets_of cell.poly)) (64 * c + 8) (faces true) (omega arith) (omega (arith, few_facets cell.poly)) (rises-numbered (64 * c + 1) (cell_face c cell) (λ e. refl) 0 (facets_of cell.poly))
     faces-rise false = omega arith
 
 -- the keys of cells from place n on rise from 64n on

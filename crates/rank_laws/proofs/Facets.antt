@@ -15,12 +15,13 @@ use Rattle.plain_lists.proofs.Below.{picked-picked}
 use Rattle.mesh_defs.specs.Tables.{Facet, dim_of, corner_count, facets_of, edges_of}
 use Rattle.mesh_defs.specs.Orientation.{relative}
 use Rattle.mesh_defs.specs.Mesh.{Mesh, Cell, placed_cells}
-use Rattle.mesh_defs.specs.Points.{Point, Sight, point_on, point_of, shows, sights_of, sights, vertex_sight, vertex_sights, arrangement}
+use Rattle.mesh_defs.specs.Points.{Point, Sight, point_on, point_of, shows, sights_of, sights, vertex_sight, vertex_sights, arrangement, cell_face, cell_edge}
 use Rattle.mesh_defs.specs.Diagram.{stratum, strata, seen_under, twist_key, IsAccepted}
 use Rattle.mesh_laws.proofs.Firsts.{shown_itself}
 use Rattle.mesh_laws.proofs.Turns.{relative-vertex, sorted-one}
 use Rattle.mesh_laws.proofs.Entries.{relative-edge}
 use Rattle.mesh_laws.proofs.Vertices.{vertex_found}
+use Rattle.mesh_laws.proofs.Containing.{all_sights_of, all_faces_of}
 use Rattle.rank_laws.specs.Conditions.{IsFlatOrSolid, IsSoundCell, IsSoundMesh}
 use Rattle.rank_laws.proofs.Found.{IsSeen, shown-in_strata, shown-in_stratum, found-first, one-entry, two-entries, poly-zero, poly-one, poly-told, length-sorted, edge-there}
 use Rattle.rank_laws.proofs.Shapes.{HasShape, are_corners, is_pair, is_edge_of, is_side_of, is_face_of, edges-are_pairs, sides-are_edges, facets-are_faces, picked-differ, picked-shape, strata-shape, all-of_strata, all-of_cells}
@@ -205,15 +206,11 @@ module _ (m : Mesh) (sound : IsSoundMesh m) where
 
       -- the faces of a solid are seen
       solid-covers : dim_of cell.poly ≡ 3 → AllByRecursion IsLooked (sights_of (c, cell)) → AllByRecursion (λ (f : Facet). IsSeen m f.poly (picked cell.vertices f.corners)) (facets_of cell.poly)
-      unfolding sights_of
       solid-covers solid looked = all_both (λ f. is_face_of cell.poly f ≡ true) (λ (f : Facet). (k : ℕ) → IsLooked (face (k, f))) (λ (f : Facet). IsSeen m f.poly (picked cell.vertices f.corners)) one (facets_of cell.poly)
           (each_passes (is_face_of cell.poly) (facets_of cell.poly) (facets-are_faces cell.poly solid)) faces-looked
         where
           face : ℕ × Facet → Sight
-          face f = record { key = 64 * c + 1 + f.0; poly = f.1.poly; arrangement = picked cell.vertices f.1.corners }
-
-          edges : List Sight
-          edges = map (λ (e : ℕ × List ℕ). record { key = 64 * c + 8 + e.0; poly = Segment; arrangement = picked cell.vertices e.1 }) (enumerate_from 0 (edges_of cell.poly))
+          face = cell_face c cell
 
           -- a key is not looked at
           any-key : (n : ℕ) (fs : List Facet) → AllByRecursion (λ (f : ℕ × Facet). IsLooked (face f)) (enumerate_from n fs) → AllByRecursion (λ (f : Facet). (k : ℕ) → IsLooked (face (k, f))) fs
@@ -221,8 +218,7 @@ module _ (m : Mesh) (sound : IsSoundMesh m) where
           any-key n (f ∷ fs) h = ((λ k. h.0), any-key (n + 1) fs h.1)
 
           faces-looked : AllByRecursion (λ (f : Facet). (k : ℕ) → IsLooked (face (k, f))) (facets_of cell.poly)
-          faces-looked = any-key 0 (facets_of cell.poly) (all_mapped IsLooked face (enumerate_from 0 (facets_of cell.poly))
-              (subst (AllByRecursion IsLooked) (cond-true (dim_of cell.poly == 3) (map face (enumerate_from 0 (facets_of cell.poly))) [] (eq-eqb (dim_of cell.poly) 3 solid)) (all_append_first IsLooked (if dim_of cell.poly == 3 then map face (enumerate_from 0 (facets_of cell.poly)) else []) edges looked.1)))
+          faces-looked = any-key 0 (facets_of cell.poly) (all_faces_of IsLooked c cell solid looked)
 
           one : (f : Facet) → is_face_of cell.poly f ≡ true → ((k : ℕ) → IsLooked (face (k, f))) → IsSeen m f.poly (picked cell.vertices f.corners)
           one f h look =
@@ -235,28 +231,10 @@ module _ (m : Mesh) (sound : IsSoundMesh m) where
 
       -- the facets of all sights of the cell are seen
       sights-cover : AllByRecursion IsLooked (sights_of (c, cell)) → AllByRecursion Covers (sights_of (c, cell))
-      unfolding sights_of
-      sights-cover looked = (
-        whole sound.dim,
-        all_append Covers (faces (dim_of cell.poly == 3)) (map edge (enumerate_from 0 (edges_of cell.poly))) (faces-cover (dim_of cell.poly == 3) refl)
-            (all_map Covers edge (enumerate_from 0 (edges_of cell.poly))
-            (all_weaker (λ (e : ℕ × List ℕ). is_pair (corner_count cell.poly) e.1 ≡ true) (λ e. Covers (edge e)) (λ e h. edge-covers (64 * c + 8 + e.0) e.1 h) (enumerate_from 0 (edges_of cell.poly)) (all_enumerated (λ e. is_pair (corner_count cell.poly) e ≡ true) 0 (edges_of cell.poly) (each_passes (is_pair (corner_count cell.poly)) (edges_of cell.poly) (edges-are_pairs cell.poly))))),
-      )
+      sights-cover looked = all_sights_of Covers c cell (whole sound.dim)
+          (λ solid. all_weaker (λ (f : ℕ × Facet). is_face_of cell.poly f.1 ≡ true) (λ f. Covers (cell_face c cell f)) (λ f h. face-covers (64 * c + 1 + f.0) f.1 h) (enumerate_from 0 (facets_of cell.poly)) (all_enumerated (λ f. is_face_of cell.poly f ≡ true) 0 (facets_of cell.poly) (each_passes (is_face_of cell.poly) (facets_of cell.poly) (facets-are_faces cell.poly solid))))
+          (all_weaker (λ (e : ℕ × List ℕ). is_pair (corner_count cell.poly) e.1 ≡ true) (λ e. Covers (cell_edge c cell e)) (λ e h. edge-covers (64 * c + 8 + e.0) e.1 h) (enumerate_from 0 (edges_of cell.poly)) (all_enumerated (λ e. is_pair (corner_count cell.poly) e ≡ true) 0 (edges_of cell.poly) (each_passes (is_pair (corner_count cell.poly)) (edges_of cell.poly) (edges-are_pairs cell.poly))))
         where
-          edge : ℕ × List ℕ → Sight
-          edge e = record { key = 64 * c + 8 + e.0; poly = Segment; arrangement = picked cell.vertices e.1 }
-
-          face : ℕ × Facet → Sight
-          face f = record { key = 64 * c + 1 + f.0; poly = f.1.poly; arrangement = picked cell.vertices f.1.corners }
-
-          faces : Bool → List Sight
-          faces b = cond b (map face (enumerate_from 0 (facets_of cell.poly))) []
-
-          faces-cover : (b : Bool) → (dim_of cell.poly == 3) ≡ b → AllByRecursion Covers (faces b)
-          faces-cover false e = tt
-          faces-cover true e = all_map Covers face (enumerate_from 0 (facets_of cell.poly))
-              (all_weaker (λ (f : ℕ × Facet). is_face_of cell.poly f.1 ≡ true) (λ f. Covers (face f)) (λ f h. face-covers (64 * c + 1 + f.0) f.1 h) (enumerate_from 0 (facets_of cell.poly)) (all_enumerated (λ f. is_face_of cell.poly f ≡ true) 0 (facets_of cell.poly) (each_passes (is_face_of cell.poly) (facets_of cell.poly) (facets-are_faces cell.poly (eqb-true (dim_of cell.poly) 3 e)))))
-
           whole : IsFlatOrSolid m → AllByRecursion (λ (f : Facet). IsSeen m f.poly (picked cell.vertices f.corners)) (facets_of cell.poly)
           whole (inl flat) = polygon-covers (good.dim ∙ flat)
           whole (inr solid) = solid-covers (good.dim ∙ solid) looked

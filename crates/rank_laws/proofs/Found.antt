@@ -13,7 +13,7 @@ use Rattle.plain_lists.proofs.Finding.{any_weaker, any_map, any_enumerated, find
 use Rattle.plain_lists.proofs.Sorted.{same_list-self}
 use Rattle.mesh_defs.specs.Tables.{Facet, dim_of, corner_count, facets_of, edges_of}
 use Rattle.mesh_defs.specs.Mesh.{Mesh, Cell, placed_cells}
-use Rattle.mesh_defs.specs.Points.{Point, Sight, same_point, point_on, point_of, shows, sights_of, sights, vertex_sights, first_sight, arrangement}
+use Rattle.mesh_defs.specs.Points.{Point, Sight, same_point, point_on, point_of, shows, sights_of, sights, vertex_sights, first_sight, arrangement, cell_face, cell_edge}
 use Rattle.mesh_defs.specs.Diagram.{firsts, stratum, strata, seen_under}
 use Rattle.mesh_laws.proofs.Firsts.{shows-true, list_any-firsts}
 use Rattle.mesh_laws.proofs.Turns.{sorted-min_max}
@@ -156,10 +156,10 @@ edge-there c cell i j x = or_right (same_point q (point_on cell.poly cell.vertic
     q = point_on Segment (picked cell.vertices (i ∷ j ∷ []))
 
     face : ℕ × Facet → Sight
-    face f = record { key = 64 * c + 1 + f.0; poly = f.1.poly; arrangement = picked cell.vertices f.1.corners }
+    face = cell_face c cell
 
     edge : ℕ × List ℕ → Sight
-    edge e = record { key = 64 * c + 8 + e.0; poly = Segment; arrangement = picked cell.vertices e.1 }
+    edge = cell_edge c cell
 
     one : (f : List ℕ) → (same_list f (i ∷ j ∷ []) || same_list f (j ∷ i ∷ [])) ≡ true → same_point q (point_on Segment (picked cell.vertices f)) ≡ true
     one f h = shows-list Segment (picked cell.vertices (i ∷ j ∷ [])) (picked cell.vertices f) 0

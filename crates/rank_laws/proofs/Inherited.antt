@@ -11,9 +11,9 @@ use Rattle.plain_lists.proofs.Each.{all_at, all_weaker, all_map, all_append, all
 use Rattle.plain_lists.proofs.Below.{picked-picked}
 use Rattle.mesh_defs.specs.Tables.{Facet, dim_of, corner_count, facets_of, edges_of}
 use Rattle.mesh_defs.specs.Mesh.{Mesh, Cell}
-use Rattle.mesh_defs.specs.Points.{Point, Sight, point_on, point_of, shows, sights_of, vertex_sight, contains}
+use Rattle.mesh_defs.specs.Points.{Point, Sight, point_on, point_of, shows, sights_of, vertex_sight, contains, cell_face, cell_edge}
 use Rattle.mesh_laws.proofs.Firsts.{shown_itself}
-use Rattle.mesh_laws.proofs.Containing.{sights_of-any_place, vertex-contained}
+use Rattle.mesh_laws.proofs.Containing.{sights_of-any_place, vertex-contained, all_sights_of, all_faces_of}
 use Rattle.rank_laws.specs.Conditions.{IsFlatOrSolid, IsSoundCell}
 use Rattle.rank_laws.proofs.Shapes.{are_corners, is_pair, is_edge_of, is_side_of, is_face_of, edges-are_pairs, sides-are_edges, facets-are_faces}
 use Rattle.rank_laws.proofs.Found.{two-entries, poly-one, edge-there}
@@ -27,17 +27,8 @@ entry-among (v ∷ vs) (suc k) h = or_right (v == slice_index vs k) (list_any (�
 
 -- what all sights of a solid cell have but for their keys, its faces have
 pub faces-have : (P : Poly → List ℕ → Type 0) (c : ℕ) (cell : Cell) → dim_of cell.poly ≡ 3 → AllByRecursion (λ (s : Sight). P s.poly s.arrangement) (sights_of (c, cell)) → AllByRecursion (λ (f : Facet). P f.poly (picked cell.vertices f.corners)) (facets_of cell.poly)
-unfolding sights_of
-faces-have P c cell solid h = without-keys 0 (facets_of cell.poly) (all_mapped (λ (s : Sight). P s.poly s.arrangement) face (enumerate_from 0 (facets_of cell.poly))
-    (subst (AllByRecursion (λ (s : Sight). P s.poly s.arrangement)) (cond-true (dim_of cell.poly == 3) (map face (enumerate_from 0 (facets_of cell.poly))) [] (eq-eqb (dim_of cell.poly) 3 solid))
-    (all_append_first (λ (s : Sight). P s.poly s.arrangement) (if dim_of cell.poly == 3 then map face (enumerate_from 0 (facets_of cell.poly)) else []) edges h.1)))
+faces-have P c cell solid h = without-keys 0 (facets_of cell.poly) (all_faces_of (λ (s : Sight). P s.poly s.arrangement) c cell solid h)
   where
-    face : ℕ × Facet → Sight
-    face f = record { key = 64 * c + 1 + f.0; poly = f.1.poly; arrangement = picked cell.vertices f.1.corners }
-
-    edges : List Sight
-    edges = map (λ (e : ℕ × List ℕ). record { key = 64 * c + 8 + e.0; poly = Segment; arrangement = picked cell.vertices e.1 }) (enumerate_from 0 (edges_of cell.poly))
-
     without-keys : (n : ℕ) (fs : List Facet) → AllByRecursion (λ (f : ℕ × Facet). P f.1.poly (picked cell.vertices f.1.corners)) (enumerate_from n fs) → AllByRecursion (λ (f : Facet). P f.poly (picked cell.vertices f.corners)) fs
     without-keys n [] x = tt
     without-keys n (f ∷ fs) x = (x.0, without-keys (n + 1) fs x.1)
@@ -46,26 +37,11 @@ faces-have P c cell solid h = without-keys 0 (facets_of cell.poly) (all_mapped (
 pub all-of_sights : (P : Sight → Type 0) (c : ℕ) (cell : Cell) → P (record { key = 64 * c; poly = cell.poly; arrangement = cell.vertices })
     → (dim_of cell.poly ≡ 3 → (k : ℕ) → AllByRecursion (λ (f : Facet). (k : ℕ) → P (record { key = k; poly = f.poly; arrangement = picked cell.vertices f.corners })) (facets_of cell.poly))
     → AllByRecursion (λ (e : List ℕ). (k : ℕ) → P (record { key = k; poly = Segment; arrangement = picked cell.vertices e })) (edges_of cell.poly) → AllByRecursion P (sights_of (c, cell))
-unfolding sights_of
-all-of_sights P c cell own faces edges = (
-  own,
-  all_append P (some_faces (dim_of cell.poly == 3)) (map edge (enumerate_from 0 (edges_of cell.poly))) (of_faces (dim_of cell.poly == 3) refl)
-      (all_map P edge (enumerate_from 0 (edges_of cell.poly)) (all_weaker (λ (e : ℕ × List ℕ). (k : ℕ) → P (record { key = k; poly = Segment; arrangement = picked cell.vertices e.1 })) (λ e. P (edge e)) (λ e f. f (64 * c + 8 + e.0)) (enumerate_from 0 (edges_of cell.poly)) (all_enumerated (λ e. (k : ℕ) → P (record { key = k; poly = Segment; arrangement = picked cell.vertices e })) 0 (edges_of cell.poly) edges))),
-)
-  where
-    face : ℕ × Facet → Sight
-    face f = record { key = 64 * c + 1 + f.0; poly = f.1.poly; arrangement = picked cell.vertices f.1.corners }
-
-    edge : ℕ × List ℕ → Sight
-    edge e = record { key = 64 * c + 8 + e.0; poly = Segment; arrangement = picked cell.vertices e.1 }
-
-    some_faces : Bool → List Sight
-    some_faces b = cond b (map face (enumerate_from 0 (facets_of cell.poly))) []
-
-    of_faces : (b : Bool) → (dim_of cell.poly == 3) ≡ b → AllByRecursion P (some_faces b)
-    of_faces false e = tt
-    of_faces true e = all_map P face (enumerate_from 0 (facets_of cell.poly)) (all_weaker (λ (f : ℕ × Facet). (k : ℕ) → P (record { key = k; poly = f.1.poly; arrangement = picked cell.vertices f.1.corners })) (λ f. P (face f)) (λ f g. g (64 * c + 1 + f.0)) (enumerate_from 0 (facets_of cell.poly))
-        (all_enumerated (λ (f : Facet). (k : ℕ) → P (record { key = k; poly = f.poly; arrangement = picked cell.vertices f.corners })) 0 (facets_of cell.poly) (faces (eqb-true (dim_of cell.poly) 3 e) 0)))
+all-of_sights P c cell own faces edges = all_sights_of P c cell own
+    (λ solid. all_weaker (λ (f : ℕ × Facet). (k : ℕ) → P (record { key = k; poly = f.1.poly; arrangement = picked cell.vertices f.1.corners })) (λ f. P (cell_face c cell f)) (λ f g. g (64 * c + 1 + f.0)) (enumerate_from 0 (facets_of cell.poly))
+    (all_enumerated (λ (f : Facet). (k : ℕ) → P (record { key = k; poly = f.poly; arrangement = picked cell.vertices f.corners })) 0 (facets_of cell.poly) (faces solid 0)))
+    (all_weaker (λ (e : ℕ × List ℕ). (k : ℕ) → P (record { key = k; poly = Segment; arrangement = picked cell.vertices e.1 })) (λ e. P (cell_edge c cell e)) (λ e f. f (64 * c + 8 + e.0)) (enumerate_from 0 (edges_of cell.poly))
+    (all_enumerated (λ e. (k : ℕ) → P (record { key = k; poly = Segment; arrangement = picked cell.vertices e })) 0 (edges_of cell.poly) edges))
 
 module _ (m : Mesh) (dims : IsFlatOrSolid m) (c : ℕ) (cell : Cell) (good : IsSoundCell m cell) where
   -- what the cell sees, it contains

@@ -10,9 +10,10 @@ use Rattle.plain_lists.proofs.Each.{all_weaker, all_from, all_append, all_map, a
 use Rattle.plain_lists.proofs.Below.{at-below as all-numbers, passes-below}
 use Rattle.mesh_defs.specs.Tables.{Facet, dim_of, corner_count, facets_of, edges_of}
 use Rattle.mesh_defs.specs.Mesh.{Mesh, Cell, placed_cells}
-use Rattle.mesh_defs.specs.Points.{Sight, sights_of, sights, vertex_sight, vertex_sights}
+use Rattle.mesh_defs.specs.Points.{Sight, sights_of, sights, vertex_sight, vertex_sights, cell_face, cell_edge}
 use Rattle.mesh_defs.specs.Diagram.{firsts, stratum, strata}
 use Rattle.mesh_laws.proofs.Firsts.{firsts-all}
+use Rattle.mesh_laws.proofs.Containing.{all_sights_of}
 use Rattle.rank_laws.specs.Conditions.{IsSoundCell, IsSoundMesh}
 
 -- ---- the tables
@@ -93,11 +94,11 @@ picked-shape vs cs k p d n h = record { corners = length-map cs (λ i. get_or vs
 
 -- all sights of a sound cell have one
 module _ (m : Mesh) (c : ℕ) (cell : Cell) (sound : IsSoundCell m cell) where
-  edge-shape : (e : ℕ × List ℕ) → is_pair (corner_count cell.poly) e.1 ≡ true → HasShape (record { key = 64 * c + 8 + e.0; poly = Segment; arrangement = picked cell.vertices e.1 })
+  edge-shape : (e : ℕ × List ℕ) → is_pair (corner_count cell.poly) e.1 ≡ true → HasShape (cell_edge c cell e)
   edge-shape e h = let both = and_parts (length e.1 == 2) (are_corners (corner_count cell.poly) e.1) h in
       picked-shape cell.vertices e.1 (64 * c + 8 + e.0) Segment sound.different (eqb-true (length e.1) 2 both.0) (subst (λ n. are_corners n e.1 ≡ true) (sym sound.corners) both.1)
 
-  face-shape : (f : ℕ × Facet) → is_face_of cell.poly f.1 ≡ true → HasShape (record { key = 64 * c + 1 + f.0; poly = f.1.poly; arrangement = picked cell.vertices f.1.corners })
+  face-shape : (f : ℕ × Facet) → is_face_of cell.poly f.1 ≡ true → HasShape (cell_face c cell f)
   face-shape f h =
       let both = and_parts _ _ h in
       let sizes = and_parts _ _ both.0 in
@@ -105,27 +106,9 @@ module _ (m : Mesh) (c : ℕ) (cell : Cell) (sound : IsSoundCell m cell) where
       picked-shape cell.vertices f.1.corners (64 * c + 1 + f.0) f.1.poly sound.different (eqb-true (length f.1.corners) (corner_count f.1.poly) sizes.0) (subst (λ n. are_corners n f.1.corners ≡ true) (sym sound.corners) corners.0)
 
   pub sights_of-shape : AllByRecursion HasShape (sights_of (c, cell))
-  unfolding sights_of
-  sights_of-shape = (
-    record { corners = sound.corners; different = sound.different },
-    all_append HasShape (faces (dim_of cell.poly == 3)) (map edge (enumerate_from 0 (edges_of cell.poly))) (faces-shape (dim_of cell.poly == 3) refl)
-        (all_map HasShape edge (enumerate_from 0 (edges_of cell.poly))
-        (all_weaker (λ (e : ℕ × List ℕ). is_pair (corner_count cell.poly) e.1 ≡ true) (λ e. HasShape (edge e)) edge-shape (enumerate_from 0 (edges_of cell.poly)) (all_enumerated (λ e. is_pair (corner_count cell.poly) e ≡ true) 0 (edges_of cell.poly) (each_passes (is_pair (corner_count cell.poly)) (edges_of cell.poly) (edges-are_pairs cell.poly))))),
-  )
-    where
-      edge : ℕ × List ℕ → Sight
-      edge e = record { key = 64 * c + 8 + e.0; poly = Segment; arrangement = picked cell.vertices e.1 }
-
-      face : ℕ × Facet → Sight
-      face f = record { key = 64 * c + 1 + f.0; poly = f.1.poly; arrangement = picked cell.vertices f.1.corners }
-
-      faces : Bool → List Sight
-      faces b = cond b (map face (enumerate_from 0 (facets_of cell.poly))) []
-
-      faces-shape : (b : Bool) → (dim_of cell.poly == 3) ≡ b → AllByRecursion HasShape (faces b)
-      faces-shape false e = tt
-      faces-shape true e = all_map HasShape face (enumerate_from 0 (facets_of cell.poly))
-          (all_weaker (λ (f : ℕ × Facet). is_face_of cell.poly f.1 ≡ true) (λ f. HasShape (face f)) face-shape (enumerate_from 0 (facets_of cell.poly)) (all_enumerated (λ f. is_face_of cell.poly f ≡ true) 0 (facets_of cell.poly) (each_passes (is_face_of cell.poly) (facets_of cell.poly) (facets-are_faces cell.poly (eqb-true (dim_of cell.poly) 3 e)))))
+  sights_of-shape = all_sights_of HasShape c cell (record { corners = sound.corners; different = sound.different })
+      (λ solid. all_weaker (λ (f : ℕ × Facet). is_face_of cell.poly f.1 ≡ true) (λ f. HasShape (cell_face c cell f)) face-shape (enumerate_from 0 (facets_of cell.poly)) (all_enumerated (λ f. is_face_of cell.poly f ≡ true) 0 (facets_of cell.poly) (each_passes (is_face_of cell.poly) (facets_of cell.poly) (facets-are_faces cell.poly solid))))
+      (all_weaker (λ (e : ℕ × List ℕ). is_pair (corner_count cell.poly) e.1 ≡ true) (λ e. HasShape (cell_edge c cell e)) edge-shape (enumerate_from 0 (edges_of cell.poly)) (all_enumerated (λ e. is_pair (corner_count cell.poly) e ≡ true) 0 (edges_of cell.poly) (each_passes (is_pair (corner_count cell.poly)) (edges_of cell.poly) (edges-are_pairs cell.poly))))
 
 -- what vertices and all sights of cells have, all points of the mesh have
 pub all-of_strata : (P : Sight → Type 0) (m : Mesh) → AllByRecursion P (vertex_sights m) → AllByRecursion P (sights (placed_cells m)) → AllByRecursion P (strata m)
