@@ -16,12 +16,12 @@ use Rattle.mesh_defs.specs.Points.{Sight}
 use Rattle.text_defs.specs.Text.{Rank}
 use Rattle.sf_defs.specs.declared.Op.TheVariants.{Sum}
 use Rattle.sf_defs.specs.declared.Ask.{Ask}
-use Rattle.sf_defs.specs.Asks.{Entry, step, on_word}
+use Rattle.sf_defs.specs.Asks.{Entry, step, on_word, word_after}
 use Rattle.sf_defs.specs.PrintedOrder.{kind_of}
 use Rattle.sf_defs.specs.Rounds.{Round, added, asks_on, rank_entries, entries}
 use Rattle.rank_defs.specs.Home.{IsNumberRound, number_asks, bases_of}
 use Rattle.rank_defs.specs.Ranks.{owned}
-use Rattle.round_laws.specs.LastValues.{word_after, took}
+use Rattle.round_laws.specs.LastValues.{took}
 use Rattle.round_laws.proofs.LastValues.{legal-last}
 use Rattle.round_laws.proofs.Sums.{legal-sums}
 use Rattle.headline_defs.specs.StepText.{ranks_with, numbered}

@@ -8,10 +8,9 @@ use Rattle.plain_lists.proofs.Each.{all_mapped}
 use Rattle.sf_defs.specs.declared.Op.{Op}
 use Rattle.sf_defs.specs.declared.Op.TheVariants.{Load, Sum, Min, Max, Or, And, Replace}
 use Rattle.sf_defs.specs.declared.Ask.{Ask}
-use Rattle.sf_defs.specs.Asks.{step, Entry, after_ask, Replays, IsOrderOf, on_word}
+use Rattle.sf_defs.specs.Asks.{step, Entry, after_ask, Replays, IsOrderOf, on_word, word_after}
 use Rattle.sf_defs.specs.PrintedOrder.{is_load, kind_of}
 use Rattle.sf_defs.specs.Rounds.{Round, IsLegal, same_op, SuitsWord, entries, asks_on}
-use Rattle.round_laws.specs.LastValues.{word_after}
 use Rattle.round_laws.proofs.Shuffles.{all_shuffled, folded, folded-shuffled, sum_by-shuffled}
 use Rattle.round_laws.proofs.Directions.{IsOfKind, step-load, replaces, replaces-replace, replaces_in, replaces_in-cons}
 use Rattle.round_laws.proofs.Word.{asks_of, load-is}

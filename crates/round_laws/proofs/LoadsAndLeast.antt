@@ -6,10 +6,10 @@ use Rattle.plain_lists.proofs.Each.{all_weaker, all_mapped}
 use Rattle.sf_defs.specs.declared.Op.{Op}
 use Rattle.sf_defs.specs.declared.Op.TheVariants.{Load, Min}
 use Rattle.sf_defs.specs.declared.Ask.{Ask}
-use Rattle.sf_defs.specs.Asks.{step, Entry, after_ask, Replays, on_word}
+use Rattle.sf_defs.specs.Asks.{step, Entry, after_ask, Replays, on_word, word_after}
 use Rattle.sf_defs.specs.PrintedOrder.{kind_of}
 use Rattle.sf_defs.specs.Rounds.{Round, IsLegal, entries, asks_on, in_order}
-use Rattle.round_laws.specs.LastValues.{word_after, IsLeast}
+use Rattle.round_laws.specs.LastValues.{IsLeast}
 use Rattle.round_laws.proofs.Shuffles.{all_shuffled}
 use Rattle.round_laws.proofs.Directions.{IsOfKind, step-load}
 use Rattle.round_laws.proofs.Entries.{asks_on-entries}

@@ -8,11 +8,11 @@ ghost use Rattle.std.specs.List.{AllByRecursion};
 ghost use Rattle.sf_defs.specs.declared.Op.TheVariants.{Load, Sum, Min};
 ghost use Rattle.sf_defs.specs.declared.Tag.{Tag};
 ghost use Rattle.sf_defs.specs.declared.Ask.{Ask};
-ghost use Rattle.sf_defs.specs.Asks.{Entry, Replays, on_word, HasOwnOrder, IsOrderOf};
+ghost use Rattle.sf_defs.specs.Asks.{Entry, Replays, on_word, HasOwnOrder, IsOrderOf, word_after};
 ghost use Rattle.sf_defs.specs.PrintedOrder.{kind_of, printed_order};
 ghost use Rattle.sf_defs.specs.Rounds.{Round, SuitsWord, MeetsConditions, IsLegal, asks_on, entries, in_order, is_legal, meets_conditions};
 ghost use Rattle.sf_defs.specs.Script.{Event, queues, walk, round_of, scripted};
-ghost use Rattle.round_laws.specs.LastValues.{word_after, IsLeast, took};
+ghost use Rattle.round_laws.specs.LastValues.{IsLeast, took};
 ghost use Rattle.round_laws.specs.ReplayingOrders.{AreNeighboursInOrder, HasReplayingOrders, IsPrinted, IsScheduleOf};
 
 /// Where some order of a word's entries, each rank's own in its order, replays from the word's

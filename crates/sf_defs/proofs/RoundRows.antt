@@ -5,7 +5,7 @@ use Rattle.sf_defs.specs.declared.Op.TheVariants.{Load, Sum, Min, Max, Or, And, 
 use Rattle.sf_defs.specs.declared.Tag.TheVariants.{Free, Number}
 use Rattle.sf_defs.specs.declared.Ask.{Ask}
 use Rattle.sf_defs.specs.declared.Turn.{Turn}
-use Rattle.sf_defs.specs.Asks.{step, Entry, does_replay}
+use Rattle.sf_defs.specs.Asks.{step, Entry, word_after, does_replay}
 use Rattle.sf_defs.specs.PrintedOrder.{fetched_before, stands_before, printed_order}
 use Rattle.sf_defs.specs.Rounds.{Round, is_legal}
 use Rattle.sf_defs.specs.Script.{scripted}
@@ -204,3 +204,9 @@ pub two_words : shown (scripted Free (5 ∷ 8 ∷ []) ((on 0 Min 4 ∷ on 1 Min 
     ≡ ((5 ∷ 7 ∷ []) ∷ (8 ∷ 4 ∷ []) ∷ [], (turn 0 0 ∷ turn 1 1 ∷ []) ∷ (turn 1 0 ∷ turn 0 1 ∷ []) ∷ [])
 unfolding scripted printed_order stands_before fetched_before step
 two_words = refl
+
+-- ---- what asks leave of a word, one after another
+
+words_after : map (word_after 12) ([] ∷ (ask Sum 5 ∷ ask Load 0 ∷ ask Sum 3 ∷ []) ∷ (ask Min 14 ∷ ask Min 9 ∷ ask Min 10 ∷ []) ∷ (ask Or 3 ∷ ask And 9 ∷ []) ∷ (ask Max 20 ∷ ask Replace 1 ∷ []) ∷ []) ≡ 12 ∷ 20 ∷ 9 ∷ 9 ∷ 1 ∷ []
+unfolding step
+words_after = refl

@@ -26,6 +26,11 @@ pub record Entry : Type 0 where
 abbrev pub after_ask : Ask → ℕ → ℕ
 after_ask ask word = step ask.op ask.value word
 
+-- the word after these asks, one after another
+abbrev pub word_after : ℕ → List Ask → ℕ
+word_after word [] = word
+word_after word (a ∷ asks) = word_after (after_ask a word) asks
+
 -- from `word` on, each entry in turn fetches the word as it stands, and the last one leaves it as `last`
 abbrev pub Replays : ℕ → List Entry → ℕ → Type 0
 Replays word [] last = word ≡ last
