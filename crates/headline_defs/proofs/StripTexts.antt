@@ -20,7 +20,7 @@ use Rattle.plex_defs.proofs.Meshes.{strip}
 use Rattle.plex_defs.specs.Fields.{row_values, dof_words}
 use Rattle.input_defs.specs.Plans.{form_of, with_form, plan_from, plan_of, rank_by}
 use Rattle.input_defs.specs.Further.{labels_at, labels_text, data_text, full_head}
-use Rattle.headline_defs.specs.States.{states, first_ranks}
+use Rattle.input_defs.specs.States.{states, first_ranks}
 use Rattle.headline_defs.specs.Rounds.{due}
 use Rattle.headline_defs.specs.Lines.{move_line, ghost_line, point_tail, owned_line, held_line, closure_line, trace_line, turn_text, window_line, sum_line}
 use Rattle.headline_defs.specs.StepText.{ranks_with, ghosts_text, owned_text, held_text, closure_of, closures_text, traces_text, windows_text, sums_text, step_details, step_lines, text_of_steps, whole_text}

@@ -9,7 +9,7 @@ use Rattle.input_defs.specs.declared.Status.{Status}
 use Rattle.input_defs.specs.declared.Status.TheVariants.{Done, Words, Plan, Mesh, ReadFault, WriteFault, NoMemory, TooLong}
 use Rattle.input_defs.specs.Refused.{Task, Refusal, where_even}
 use Rattle.input_defs.specs.Causes.{◌>>=◌}
-use Rattle.headline_defs.specs.States.{first_ranks}
+use Rattle.input_defs.specs.States.{first_ranks}
 use Rattle.headline_defs.specs.Rounds.{Due, Keys, due, AreFirst, AreAll}
 use Rattle.headline_defs.specs.StepText.{Subject, whole_text, known_text}
 

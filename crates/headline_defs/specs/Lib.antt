@@ -1,4 +1,3 @@
-pub mod States
 pub mod Rounds
 pub mod Lines
 pub mod StepText

@@ -4,7 +4,7 @@ use Rattle.mesh_defs.specs.Mesh.{Mesh}
 use Rattle.sf_defs.specs.Rounds.{Round}
 use Rattle.rank_defs.specs.Home.{IsHomeRound, IsNumberRound}
 use Rattle.input_defs.specs.Plans.{Plan, is_part}
-use Rattle.headline_defs.specs.States.{State, states, first_ranks}
+use Rattle.input_defs.specs.States.{State, states, first_ranks}
 
 -- a round that is to be kept, for the cells by these ranks: of the keys, or of the numbers
 pub data Due : Type 0 where

@@ -19,7 +19,7 @@ use Rattle.rank_defs.specs.Spread.{trace}
 use Rattle.input_defs.specs.declared.Show.{Show}
 use Rattle.input_defs.specs.Plans.{Plan, DofsLine, is_part}
 use Rattle.input_defs.specs.Further.{data_at, full_head}
-use Rattle.headline_defs.specs.States.{State, states, first_ranks}
+use Rattle.input_defs.specs.States.{State, states, first_ranks}
 use Rattle.headline_defs.specs.Lines.{move_line, ghost_line, owned_line, held_line, closure_line, trace_line, window_line, sum_line}
 
 -- What is printed, and of what: the mesh, the plan, and what is shown.

@@ -8,7 +8,7 @@ use Rattle.std.proofs.lemmas.Grind.{flat_map-append}
 use Rattle.text_defs.specs.Text.{end_line}
 use Rattle.sf_defs.specs.Rounds.{Round}
 use Rattle.input_defs.specs.Further.{full_head}
-use Rattle.headline_defs.specs.States.{State, states}
+use Rattle.input_defs.specs.States.{State, states}
 use Rattle.headline_defs.specs.StepText.{Subject, step_text, text_of_steps, whole_text, known_steps, known_text}
 use Rattle.headline_laws.proofs.Steps.{step-own}
 

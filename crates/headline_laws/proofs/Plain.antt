@@ -11,7 +11,7 @@ use Rattle.plain_lists.proofs.Filters.{filter_whole, flat_map_same}
 use Rattle.plain_lists.proofs.Below.{below-all}
 use Rattle.plain_lists.proofs.Least.{least-bound}
 use Rattle.mesh_defs.specs.Mesh.{Mesh, Mark, Section, Cell, placed_cells}
-use Rattle.mesh_defs.specs.Points.{Point, Sight, point_of, same_point, contains}
+use Rattle.mesh_defs.specs.Points.{Point, Sight, point_of, same_point, contains, marked_point}
 use Rattle.mesh_defs.specs.Diagram.{chart, cone}
 use Rattle.text_defs.specs.Text.{alone, number_of, tag, line, mesh_line, ranks_line, tail_text, point_line, head_text, rank_text, total_text, point_text, points_text, step_line, plain_step_text as plain_step, end_line, plain_text}
 use Rattle.sf_defs.specs.declared.Op.TheVariants.{Sum}
@@ -19,12 +19,12 @@ use Rattle.sf_defs.specs.declared.Ask.{Ask}
 use Rattle.sf_defs.specs.Asks.{Replays}
 use Rattle.sf_defs.specs.PrintedOrder.{printed_order}
 use Rattle.sf_defs.specs.Rounds.{Round, entry_at, printed_turns}
-use Rattle.plex_defs.specs.Labels.{values_at, label_of, marked_point}
+use Rattle.plex_defs.specs.Labels.{values_at, label_of}
 use Rattle.rank_defs.specs.Home.{IsNumberRound, number_asks, bases_of}
 use Rattle.rank_defs.specs.Ranks.{least, rank_of, assigned, held_cells, held, ranks_at, owner, owned}
 use Rattle.input_defs.specs.Plans.{Part, Block, plain_plan, rank_by}
 use Rattle.input_defs.specs.Further.{name_line, section_line, labels_at, label_text, labels_text, data_at, values_text, data_text, full_head}
-use Rattle.headline_defs.specs.States.{State, states, assignment, first_ranks}
+use Rattle.input_defs.specs.States.{State, states, assignment, first_ranks}
 use Rattle.headline_defs.specs.Rounds.{due, AreAll}
 use Rattle.headline_defs.specs.Lines.{move_line, point_tail, owned_line}
 use Rattle.headline_defs.specs.StepText.{Subject, ranks_with, ghosts_text, owned_text, step_details, step_lines, text_of_steps, whole_text}

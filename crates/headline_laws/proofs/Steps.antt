@@ -2,7 +2,7 @@
 use Rattle.std.proofs.Common.{◌≡◌, ℕ, ◌+◌, ◌<◌, List, take, get_or, sym, ap, ◌∙◌, arith}
 use Rattle.std.proofs.lemmas.List.{get_or-take}
 use Rattle.sf_defs.specs.Rounds.{Round}
-use Rattle.headline_defs.specs.States.{State}
+use Rattle.input_defs.specs.States.{State}
 use Rattle.headline_defs.specs.StepText.{Subject, step_lines, step_text, home_round, number_round}
 
 -- lists with the same first n elements have the same element at each place below n

@@ -3,6 +3,7 @@ pub mod FormRows
 pub mod MeshRows
 pub mod PlateRows
 pub mod PlanRows
+pub mod StateRows
 pub mod WordRows
 pub mod MadeRows
 pub mod RefusalRows

@@ -6,6 +6,7 @@ pub mod DataSections
 pub mod Files
 pub mod Meshes
 pub mod Plans
+pub mod States
 pub mod Words
 pub mod Generated
 pub mod Refused

@@ -5,7 +5,7 @@ use Rattle.mesh_defs.specs.declared.Poly.{Poly}
 use Rattle.mesh_defs.specs.declared.Poly.TheVariants.{Vertex}
 use Rattle.mesh_defs.specs.declared.Place.{Place}
 use Rattle.mesh_defs.specs.declared.Place.TheVariants as place
-use Rattle.plain_lists.specs.Lists.{same_list, sorted}
+use Rattle.plain_lists.specs.Lists.{same_set}
 use Rattle.mesh_defs.specs.Tables.{dim_of}
 use Rattle.mesh_defs.specs.Orientation.{relative}
 use Rattle.mesh_defs.specs.Mesh.{Mesh, Cell, Mark, Row, Section}
@@ -27,7 +27,7 @@ dim element = dim_of (poly element)
 
 -- two elements have the same nodes; the same dimension and the same nodes
 abbrev pub same_nodes : Element → Element → Bool
-same_nodes a b = same_list (sorted a.nodes) (sorted b.nodes)
+same_nodes a b = same_set a.nodes b.nodes
 
 abbrev pub same_place : Element → Element → Bool
 same_place a b = (dim a == dim b) && same_nodes a b

@@ -4,10 +4,10 @@ use Rattle.std.specs.Prelude.{filter, flat_map, codes, decimal}
 use Rattle.std.specs.List.{enumerate_from}
 use Rattle.std.specs.Fmt.{signed_decimal}
 use Rattle.mesh_defs.specs.Mesh.{Mesh, Mark, Name, Section}
-use Rattle.mesh_defs.specs.Points.{Point, Sight, same_point, point_of}
+use Rattle.mesh_defs.specs.Points.{Point, Sight, same_point, point_of, marked_point}
 use Rattle.mesh_defs.specs.Diagram.{cone}
 use Rattle.text_defs.specs.Text.{alone, number_of, tag, tail_text, line, mesh_line, ranks_line, step_line, point_line, head_text, rank_text, total_text, point_text, points_text, plain_step_text, end_line, plain_text}
-use Rattle.plex_defs.specs.Labels.{marked_point, label_of, values_at}
+use Rattle.plex_defs.specs.Labels.{label_of, values_at}
 use Rattle.input_defs.specs.Further.{name_line, section_line, dofs_line, labels_at, label_text, labels_text, values_text, data_at, data_text, full_point, full_head, full_text}
 
 no-labels : (m : Mesh) (p : Point) → m.marks ≡ [] → labels_text m p ≡ []

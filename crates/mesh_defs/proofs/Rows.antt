@@ -1,14 +1,16 @@
 -- Worked rows: what the definitions compute, against tables and meshes worked out by hand.
 use Rattle.std.proofs.Common.{◌≡◌, ℕ, ◌*◌, ◌+◌, List, [], ◌∷◌, ◌++◌, length, map, get_or, replicate, ℤ, pos, negsuc, Option, Some, None, refl}
-use Rattle.std.specs.Prelude.{count_by, sum_by, ◌==◌, ◌&&◌, ◌%◌, take, slice_get, option_map}
+use Rattle.std.specs.List.{enumerate_from}
+use Rattle.std.specs.Prelude.{true, false, drop, count_by, sum_by, ◌==◌, ◌&&◌, ◌%◌, take, slice_get, option_map}
 use Rattle.mesh_defs.specs.declared.Poly.{Poly}
 use Rattle.mesh_defs.specs.declared.Poly.TheVariants.{Vertex, Segment, Triangle, Quad, Tet, Hex}
 use Rattle.mesh_defs.specs.declared.ConeEntry.{ConeEntry}
-use Rattle.plain_lists.specs.Lists.{below, sorted}
+use Rattle.plain_lists.specs.Lists.{below, sorted, differ_as_sets}
 use Rattle.mesh_defs.specs.Tables.{edges_of, facets_of}
 use Rattle.mesh_defs.specs.Orientation.{rotations, reflections, orientations, corners_under, act, relative}
 use Rattle.mesh_defs.specs.Mesh.{Mesh, Cell, placed_cells}
-use Rattle.mesh_defs.specs.Points.{Point, sights_of, first_sight, key, arrangement, contains, vertex_sight}
+use Rattle.mesh_defs.specs.Points.{Point, sights_of, first_sight, key, arrangement, contains, vertex_sight, cell_sight, cell_face, cell_edge}
+use Rattle.mesh_defs.specs.Sights.{edge_sight, points_differ}
 use Rattle.mesh_defs.specs.Diagram.{stratum, strata, chart, place_in, seen_under, entry, cone, twist_key, count_in}
 
 -- ---- tables
@@ -118,3 +120,21 @@ two_hexahedra_kept = refl
 twisted_hexahedra : twist_key (solids 12 (cell Hex (0 ∷ 1 ∷ 2 ∷ 3 ∷ 4 ∷ 5 ∷ 6 ∷ 7 ∷ []) ∷ cell Hex (4 ∷ 6 ∷ 5 ∷ 7 ∷ 8 ∷ 9 ∷ 10 ∷ 11 ∷ []) ∷ [])) ≡ Some (64 * 1 + 1 + 0)
 unfolding sorted rotations reflections orientations corners_under act relative sights_of first_sight arrangement seen_under twist_key
 twisted_hexahedra = refl
+
+-- ---- sights by name
+
+-- cell 3 sees itself, its face 1 and its edge 5
+sights_of_a_tetrahedron : let c = cell Tet (7 ∷ 5 ∷ 9 ∷ 2 ∷ []) in
+    (cell_sight 3 c ≡ record { key = 192; poly = Tet; arrangement = 7 ∷ 5 ∷ 9 ∷ 2 ∷ [] })
+    × (map (cell_face 3 c) (take 1 (drop 1 (enumerate_from 0 (facets_of Tet)))) ≡ record { key = 194; poly = Triangle; arrangement = 7 ∷ 5 ∷ 2 ∷ [] } ∷ [])
+    × (map (cell_edge 3 c) (drop 5 (enumerate_from 0 (edges_of Tet))) ≡ edge_sight 205 9 2 ∷ [])
+sights_of_a_tetrahedron = (refl, refl, refl)
+
+-- an edge the other way is the same point, also under another key
+different_points : map points_differ ((edge_sight 8 0 1 ∷ edge_sight 9 1 2 ∷ []) ∷ (edge_sight 8 0 1 ∷ vertex_sight 0 ∷ edge_sight 72 1 0 ∷ []) ∷ [] ∷ []) ≡ true ∷ false ∷ true ∷ []
+unfolding sorted
+different_points = refl
+
+different_sets : map differ_as_sets (((0 ∷ 1 ∷ 2 ∷ []) ∷ (1 ∷ 3 ∷ 2 ∷ []) ∷ []) ∷ ((0 ∷ 1 ∷ 2 ∷ []) ∷ (3 ∷ []) ∷ (2 ∷ 0 ∷ 1 ∷ []) ∷ []) ∷ ((0 ∷ 1 ∷ []) ∷ (0 ∷ 0 ∷ 1 ∷ []) ∷ []) ∷ []) ≡ true ∷ false ∷ true ∷ []
+unfolding sorted
+different_sets = refl

@@ -5,7 +5,7 @@ use Rattle.mesh_defs.specs.declared.Poly.{Poly}
 use Rattle.mesh_defs.specs.declared.Poly.TheVariants.{Vertex, Segment}
 use Rattle.plain_lists.specs.Lists.{below, same_list, sorted, picked}
 use Rattle.mesh_defs.specs.Tables.{Facet, dim_of, edges_of, facets_of}
-use Rattle.mesh_defs.specs.Mesh.{Mesh, Cell, placed_cells}
+use Rattle.mesh_defs.specs.Mesh.{Mesh, Cell, Mark, placed_cells}
 
 -- a point is a dimension and a set of vertices, as a rising list
 pub record Point : Type 0 where
@@ -29,6 +29,10 @@ point_on poly vertices = record { dim = dim_of poly; vertices = sorted vertices 
 
 abbrev pub point_of : Sight → Point
 point_of s = point_on s.poly s.arrangement
+
+-- the point that a label value is on
+abbrev pub marked_point : Mark → Point
+marked_point mark = record { dim = mark.dim; vertices = sorted mark.vertices }
 
 -- it is this point that is seen
 abbrev pub shows : Point → Sight → Bool

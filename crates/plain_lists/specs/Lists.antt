@@ -26,7 +26,11 @@ sorted (x ∷ xs) = inserted x (sorted xs)
 abbrev pub picked : List ℕ → List ℕ → List ℕ
 picked xs places = map (λ k. get_or xs k 0) places
 
+-- two lists have the same entries, each as often
+abbrev pub same_set : List ℕ → List ℕ → Bool
+same_set xs ys = same_list (sorted xs) (sorted ys)
+
 -- no two lists have the same entries
 abbrev pub differ_as_sets : List (List ℕ) → Bool
 differ_as_sets [] = true
-differ_as_sets (x ∷ xs) = not (list_any (λ y. same_list (sorted x) (sorted y)) xs) && differ_as_sets xs
+differ_as_sets (x ∷ xs) = not (list_any (same_set x) xs) && differ_as_sets xs

@@ -3,7 +3,7 @@ use Rattle.std.specs.Prelude.{◌≡◌, ◌≢◌, ℕ, zero, suc, ◌<◌, Boo
 use Rattle.std.specs.List.{list_any}
 use Rattle.mesh_defs.specs.declared.Poly.TheVariants.{Vertex}
 use Rattle.mesh_defs.specs.declared.ConeEntry.{ConeEntry}
-use Rattle.plain_lists.specs.Lists.{below, same_list, sorted, picked}
+use Rattle.plain_lists.specs.Lists.{below, same_set, picked}
 use Rattle.mesh_defs.specs.Tables.{Facet, dim_of, corner_count, facets_of, facet_at}
 use Rattle.mesh_defs.specs.Orientation.{act, relative}
 use Rattle.mesh_defs.specs.Points.{Sight}
@@ -12,7 +12,7 @@ use Rattle.mesh_defs.specs.Diagram.{Covering, Diagram}
 abbrev pub point_in : Diagram → ℕ → Covering
 point_in x p = get_or x.points p (record { poly = Vertex; covers = [] })
 
-abbrev cone_entry : ℕ → ℤ → ConeEntry
+abbrev pub cone_entry : ℕ → ℤ → ConeEntry
 cone_entry p o = record { point = p; o = o }
 
 -- one of these entries is of this point
@@ -46,26 +46,22 @@ pub record IsArranged (x : Diagram) (lists : List (List ℕ)) : Type 0 where
 
 -- ---- closure and star
 
--- two lists have the same vertices
-abbrev same_set : List ℕ → List ℕ → Bool
-same_set xs ys = same_list (sorted xs) (sorted ys)
-
 -- what covers a facet: the point of the cone on the facet's vertices, under the orientation that carries its list onto the facet
-abbrev seen_at : Diagram → List (List ℕ) → List ConeEntry → List ℕ → Option ConeEntry
+abbrev pub seen_at : Diagram → List (List ℕ) → List ConeEntry → List ℕ → Option ConeEntry
 seen_at x lists cone facet =
     option_and_then (λ (c : ConeEntry). option_map (cone_entry c.point) (relative (point_in x c.point).poly (list_of lists c.point) facet)) (find (λ (c : ConeEntry). same_set (list_of lists c.point) facet) cone)
 
 -- what an entry of one level adds to the next: its facets, in order
-abbrev facets_under : Diagram → List (List ℕ) → ConeEntry → List ConeEntry
+abbrev pub facets_under : Diagram → List (List ℕ) → ConeEntry → List ConeEntry
 facets_under x lists e = let p = point_in x e.point in filter_map (λ f. seen_at x lists p.covers (facet_list x lists e f)) (facets_of p.poly)
 
 -- the entries of points that are not there yet, each point once
-abbrev new_points : List ConeEntry → List ConeEntry → List ConeEntry
+abbrev pub new_points : List ConeEntry → List ConeEntry → List ConeEntry
 new_points there [] = []
 new_points there (e ∷ es) = if covers there e.point then new_points there es else e ∷ new_points (e ∷ there) es
 
 -- the closure after n more levels, added to what is there; the last level is given once more
-abbrev levels : Diagram → List (List ℕ) → ℕ → List ConeEntry → List ConeEntry → List ConeEntry
+abbrev pub levels : Diagram → List (List ℕ) → ℕ → List ConeEntry → List ConeEntry → List ConeEntry
 levels x lists zero there last = there
 levels x lists (suc n) there last = let next = new_points there (flat_map (facets_under x lists) last) in levels x lists n (there ++ next) next
 

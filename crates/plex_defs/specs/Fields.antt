@@ -1,5 +1,6 @@
 -- Fields: words on points, laid out by sections, after PetscSection.
-use Rattle.std.specs.Prelude.{ℕ, ◌+◌, ◌-◌, ◌*◌, ◌/◌, ◌^◌, ◌==◌, if◌then◌else◌, List, [], ◌++◌, map, reverse, take, slice_index, slice_range, filter, find, sum, sum_by, ℤ, pos, negsuc, Option, Some, None, option_map, option_and_then, unwrap_or}
+use Rattle.std.specs.Prelude.{◌≡◌, ℕ, ◌≤◌, ◌+◌, ◌-◌, ◌*◌, ◌/◌, ◌^◌, ◌==◌, if◌then◌else◌, List, [], ◌++◌, length, map, reverse, take, slice_index, slice_range, filter, find, sum, sum_by, ℤ, pos, negsuc, Option, Some, None, option_map, option_and_then, unwrap_or}
+use Rattle.std.specs.List.{AllByRecursion}
 use Rattle.mesh_defs.specs.declared.Place.{Place}
 use Rattle.mesh_defs.specs.declared.Place.TheVariants.{Node, Element}
 use Rattle.plain_lists.specs.Lists.{below}
@@ -40,8 +41,14 @@ data_words m f s = map word_of (unwrap_or (option_and_then (row_values f) (numbe
 -- ---- dofs: a formula that gives each point of a dimension as many words as its line says
 
 -- the sum of c + 1 over the cells c that contain a point
-abbrev weight : Mesh → Point → ℕ
+abbrev pub weight : Mesh → Point → ℕ
 weight m p = sum_by (λ (c : ℕ × Cell). c.0 + 1) (filter (λ (c : ℕ × Cell). contains c.1 p) (placed_cells m))
+
+-- the counts of `dofs` lines: at most eight lines, each with four counts, of dimension 0 to 3, of at most 16
+pub record AreRightDofs (dofs : List (List ℕ)) : Type 0 where
+  pub few_lines : length dofs ≤ 8
+  pub four_counts : AllByRecursion (λ (counts : List ℕ). length counts ≡ 4) dofs
+  pub small_counts : AllByRecursion (AllByRecursion (λ n. n ≤ 16)) dofs
 
 -- the words of a point, of which `counts` gives the number by dimension: word i is i + 1 times the weight
 unfoldable pub dof_words : Mesh → List ℕ → Sight → List ℕ

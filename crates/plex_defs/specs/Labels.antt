@@ -2,15 +2,14 @@
 use Rattle.std.specs.Prelude.{ℕ, Bool, ◌&&◌, ◌||◌, ◌==◌, if◌then◌else◌, nat_lt, int_lt, List, [], ◌∷◌, map, filter, flat_map, fold, ℤ}
 use Rattle.std.specs.List.{list_any, enumerate_from}
 use Rattle.std.specs.Ordering.{int_eq}
-use Rattle.plain_lists.specs.Lists.{sorted}
 use Rattle.mesh_defs.specs.Tables.{dim_of}
 use Rattle.mesh_defs.specs.Mesh.{Mesh, Mark}
-use Rattle.mesh_defs.specs.Points.{Point, Sight, same_point, point_of}
+use Rattle.mesh_defs.specs.Points.{Point, Sight, same_point, point_of, marked_point}
 
-abbrev same_pair : ℕ × ℤ → ℕ × ℤ → Bool
+abbrev pub same_pair : ℕ × ℤ → ℕ × ℤ → Bool
 same_pair a b = (a.0 == b.0) && int_eq a.1 b.1
 
-abbrev comes_before : ℕ × ℤ → ℕ × ℤ → Bool
+abbrev pub comes_before : ℕ × ℤ → ℕ × ℤ → Bool
 comes_before a b = nat_lt a.0 b.0 || ((a.0 == b.0) && int_lt a.1 b.1)
 
 -- the point has the value
@@ -34,9 +33,6 @@ abbrev pub values_at : List (ℕ × ℤ) → ℕ → List ℤ
 values_at label p = map (λ (a : ℕ × ℤ). a.1) (filter (λ (a : ℕ × ℤ). a.0 == p) label)
 
 -- ---- the labels of a mesh
-
-abbrev pub marked_point : Mark → Point
-marked_point k = record { dim = k.dim; vertices = sorted k.vertices }
 
 -- the values that the marks of a mesh put on a point, by their order
 abbrev pub marks_on : Mesh → Point → List ℤ
