@@ -14,7 +14,7 @@ use Rattle.mesh_defs.specs.Diagram.{stratum, strata, chart}
 use Rattle.mesh_laws.proofs.Containing.{sights_of-any_place, chart-all, all_sights_of}
 use Rattle.mesh_laws.proofs.Firsts.{shows-true}
 use Rattle.mesh_laws.proofs.Vertices.{vertex_found}
-use Rattle.rank_laws.specs.Conditions.{IsSoundCell, IsSoundMesh, in_some}
+use Rattle.mesh_defs.specs.RightMesh.{IsSoundCell, IsSoundMesh, in_some}
 use Rattle.rank_laws.proofs.Found.{shown-in_strata, shown-in_stratum}
 use Rattle.rank_laws.proofs.Shapes.{is_face_of, facets-are_faces}
 

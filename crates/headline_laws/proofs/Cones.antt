@@ -17,7 +17,7 @@ use Rattle.mesh_defs.specs.Sights.{points_differ}
 use Rattle.text_defs.specs.Text.{Rank, number_of}
 use Rattle.rank_defs.specs.Ranks.{IsAssignment, assigned, held_cells, held, owner, owned}
 use Rattle.rank_defs.specs.Home.{point_number}
-use Rattle.rank_laws.specs.Conditions.{in_some, IsFlatOrSolid, IsSoundMesh}
+use Rattle.mesh_defs.specs.RightMesh.{in_some, IsFlatOrSolid, IsSoundMesh}
 use Rattle.rank_laws.proofs.Strata.{strata-differ}
 use Rattle.rank_laws.proofs.Found.{IsSeen}
 use Rattle.rank_laws.proofs.Facets.{Covers, strata-cover}

@@ -12,9 +12,9 @@ ghost use Rattle.text_defs.specs.Text.{number_of, plain_text};
 ghost use Rattle.sf_defs.specs.Rounds.{Round};
 ghost use Rattle.rank_defs.specs.Ranks.{IsAssignment};
 ghost use Rattle.rank_defs.specs.Home.{IsNumberRound, bases_of, point_number};
-ghost use Rattle.rank_laws.specs.Conditions.{IsFlatOrSolid, IsSoundMesh, in_some};
+ghost use Rattle.mesh_defs.specs.RightMesh.{IsFlatOrSolid, IsSoundMesh, in_some};
 ghost use Rattle.input_defs.specs.Plans.{plain_plan};
-ghost use Rattle.headline_defs.specs.States.{State};
+ghost use Rattle.input_defs.specs.States.{State};
 ghost use Rattle.headline_defs.specs.Rounds.{due, AreAll};
 ghost use Rattle.headline_defs.specs.StepText.{Subject, ranks_with, numbered, step_text, whole_text, known_text};
 

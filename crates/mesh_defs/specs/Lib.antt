@@ -4,3 +4,4 @@ pub mod Mesh
 pub mod Points
 pub mod Sights
 pub mod Diagram
+pub mod RightMesh

@@ -1,3 +1,4 @@
 pub mod Meshes
 pub mod Arranged
 pub mod ClosureRows
+pub mod RightRows

@@ -5,11 +5,11 @@ use Rattle.mesh_defs.specs.declared.Poly.TheVariants.{Triangle, Quad, Tet, Hex}
 use Rattle.plain_lists.specs.Lists.{below}
 use Rattle.mesh_defs.specs.Mesh.{Mesh}
 
--- a mesh without coordinates, marks and data
+-- a mesh without marks and data, its vertices all at one place
 abbrev pub bare : ℕ → ℕ → Poly → List (List ℕ) → Mesh
 bare dim vertices poly cells = record {
   dim = dim;
-  at = replicate vertices [];
+  at = replicate vertices (pos 0 ∷ pos 0 ∷ pos 0 ∷ []);
   cells = map (λ c. record { poly = poly; vertices = c }) cells;
   marks = [];
   names = [];

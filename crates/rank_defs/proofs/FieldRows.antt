@@ -1,5 +1,6 @@
 -- Worked rows: labels and fields of the points of small meshes.
-use Rattle.std.proofs.Common.{◌≡◌, ℕ, ◌-◌, ◌*◌, ◌^◌, List, [], ◌∷◌, map, ℤ, pos, negsuc, Option, Some, None, refl}
+use Rattle.std.specs.List.{list_all}
+use Rattle.std.proofs.Common.{◌≡◌, true, ℕ, ◌-◌, ◌*◌, ◌^◌, List, [], ◌∷◌, map, ℤ, pos, negsuc, Option, Some, None, refl}
 use Rattle.mesh_defs.specs.declared.Poly.TheVariants.{Triangle}
 use Rattle.mesh_defs.specs.declared.Place.TheVariants.{Node, Element}
 use Rattle.plain_lists.specs.Lists.{sorted, below}
@@ -10,6 +11,7 @@ use Rattle.plex_defs.specs.Labels.{mesh_label}
 use Rattle.plex_defs.specs.Fields.{row_values, data_words, dof_words, fields, words_at}
 use Rattle.rank_defs.specs.Ranks.{assigned, held_cells, held, ranks_at, owner}
 use Rattle.rank_defs.specs.Spread.{LocalMesh, local_mesh, plain_dist, ScatterPart, scatter_part, plain_scatter}
+use Rattle.mesh_defs.proofs.RightMeshes.{is_right}
 use Rattle.plex_defs.proofs.Meshes.{bare, two_triangles}
 
 abbrev one_triangle : Mesh
@@ -22,7 +24,10 @@ abbrev mark : ℕ → List ℕ → ℤ → Mark
 mark dim vertices value = record { dim = dim; vertices = vertices; value = value }
 
 -- an element that is merged with the cell adds its value to it; a mark of a vertex, and one that stands twice on an edge
-marked : map (λ dim. mesh_label (record one_triangle { marks = mark 2 (0 ∷ 1 ∷ 2 ∷ []) (pos 6) ∷ mark 2 (1 ∷ 2 ∷ 0 ∷ []) (pos 5) ∷ mark 0 (2 ∷ []) (negsuc 0) ∷ mark 1 (2 ∷ 1 ∷ []) (pos 2) ∷ mark 1 (1 ∷ 2 ∷ []) (pos 2) ∷ [] }) dim (points one_triangle)) (below 4)
+abbrev with_marks : Mesh
+with_marks = record one_triangle { marks = mark 2 (0 ∷ 1 ∷ 2 ∷ []) (pos 6) ∷ mark 2 (1 ∷ 2 ∷ 0 ∷ []) (pos 5) ∷ mark 0 (2 ∷ []) (negsuc 0) ∷ mark 1 (2 ∷ 1 ∷ []) (pos 2) ∷ mark 1 (1 ∷ 2 ∷ []) (pos 2) ∷ [] }
+
+marked : map (λ dim. mesh_label with_marks dim (points one_triangle)) (below 4)
     ≡ ((3, negsuc 0) ∷ []) ∷ ((5, pos 2) ∷ []) ∷ ((0, pos 5) ∷ (0, pos 6) ∷ []) ∷ [] ∷ []
 unfolding sorted sights_of contains stratum strata chart mesh_label
 marked = refl
@@ -82,12 +87,17 @@ unfolding sorted sights_of contains stratum strata chart mesh_label row_values d
 labels_and_fields_over_ranks = refl
 
 -- of what a rank is given, the marks and the rows of its vertices and cells
-abbrev given : ScatterPart → List Mark × List (List (Option (List ℤ)))
-given part = (part.marks, part.rows)
+abbrev handed_out : ScatterPart → List Mark × List (List (Option (List ℤ)))
+handed_out part = (part.marks, part.rows)
 
 -- the mark of the edge goes to both ranks, and each row to those that have its vertex or cell
-marks_and_rows_over_ranks : map given (plain_scatter marked_triangles [] (0 ∷ 1 ∷ []) 2).parts
+marks_and_rows_over_ranks : map handed_out (plain_scatter marked_triangles [] (0 ∷ 1 ∷ []) 2).parts
     ≡ (mark 1 (2 ∷ 1 ∷ []) (pos 7) ∷ [], (None ∷ Some (pos 5 ∷ []) ∷ None ∷ []) ∷ (None ∷ []) ∷ [])
     ∷ (mark 1 (2 ∷ 1 ∷ []) (pos 7) ∷ mark 2 (1 ∷ 3 ∷ 2 ∷ []) (pos 4) ∷ [], (Some (pos 5 ∷ []) ∷ None ∷ None ∷ []) ∷ (Some (pos 9 ∷ []) ∷ []) ∷ []) ∷ []
 unfolding sorted sights_of contains stratum strata chart row_values assigned ranks_at owner scatter_part plain_scatter
 marks_and_rows_over_ranks = refl
+
+-- the meshes with marks and data are right
+right_meshes : list_all is_right (with_marks ∷ with_data ∷ marked_triangles ∷ []) ≡ true
+unfolding sorted sights_of contains
+right_meshes = refl

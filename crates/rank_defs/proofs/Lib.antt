@@ -1,3 +1,4 @@
 pub mod FieldRows
 pub mod RankRows
 pub mod StripRows
+pub mod RightRows

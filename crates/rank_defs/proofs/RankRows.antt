@@ -1,5 +1,5 @@
 -- Worked rows: two and three triangles over ranks.
-use Rattle.std.proofs.Common.{◌≡◌, ◌==◌, ℕ, List, [], ◌∷◌, map, flat_map, count_by, ℤ, pos, negsuc, refl}
+use Rattle.std.proofs.Common.{◌≡◌, ◌==◌, ℕ, List, [], ◌∷◌, map, flat_map, replicate, count_by, ℤ, pos, negsuc, refl}
 use Rattle.mesh_defs.specs.Mesh.{Mesh, Cell}
 use Rattle.mesh_defs.specs.declared.Poly.TheVariants.{Vertex, Segment, Triangle}
 use Rattle.mesh_defs.specs.declared.ConeEntry.{ConeEntry}
@@ -206,6 +206,10 @@ two_triangles_widened = (refl, refl)
 
 -- ---- three triangles: shared points without keys
 
+-- where all vertices of these meshes are
+abbrev origin : List ℤ
+origin = pos 0 ∷ pos 0 ∷ pos 0 ∷ []
+
 -- Rank 1 has the cells 1 and 2. It holds both ends of the edge between the vertices 0 and 1, and not the edge.
 three_triangles_scattered : plain_scatter three_triangles [] (0 ∷ 1 ∷ 1 ∷ []) 2
     ≡ record {
@@ -213,12 +217,12 @@ three_triangles_scattered : plain_scatter three_triangles [] (0 ∷ 1 ∷ 1 ∷ 
       sections = [];
       dofs = [];
       parts =
-          record { cells = (0, cell (0 ∷ 1 ∷ 2 ∷ [])) ∷ []; vertices = 0 ∷ 1 ∷ 2 ∷ []; owners = 0 ∷ 0 ∷ 0 ∷ []; at = [] ∷ [] ∷ [] ∷ []; marks = []; rows = [] }
+          record { cells = (0, cell (0 ∷ 1 ∷ 2 ∷ [])) ∷ []; vertices = 0 ∷ 1 ∷ 2 ∷ []; owners = 0 ∷ 0 ∷ 0 ∷ []; at = replicate 3 origin; marks = []; rows = [] }
           ∷ record {
             cells = (1, cell (0 ∷ 2 ∷ 3 ∷ [])) ∷ (2, cell (2 ∷ 1 ∷ 4 ∷ [])) ∷ [];
             vertices = 0 ∷ 1 ∷ 2 ∷ 3 ∷ 4 ∷ [];
             owners = 0 ∷ 0 ∷ 0 ∷ 1 ∷ 1 ∷ [];
-            at = [] ∷ [] ∷ [] ∷ [] ∷ [] ∷ [];
+            at = replicate 5 origin;
             marks = [];
             rows = [];
           } ∷ [];
@@ -235,7 +239,7 @@ three_triangles_shared : plain_shared three_triangles [] (0 ∷ 1 ∷ 1 ∷ []) 
           record {
             cells = (0, cell (0 ∷ 1 ∷ 2 ∷ [])) ∷ [];
             vertices = 0 ∷ 1 ∷ 2 ∷ [];
-            at = [] ∷ [] ∷ [] ∷ [];
+            at = replicate 3 origin;
             sets = (0 ∷ 1 ∷ 2 ∷ []) ∷ (0 ∷ []) ∷ (1 ∷ []) ∷ (2 ∷ []) ∷ (0 ∷ 1 ∷ []) ∷ (1 ∷ 2 ∷ []) ∷ (0 ∷ 2 ∷ []) ∷ [];
             labels = [] ∷ [] ∷ [] ∷ [] ∷ [];
             fields = [];
@@ -243,7 +247,7 @@ three_triangles_shared : plain_shared three_triangles [] (0 ∷ 1 ∷ 1 ∷ []) 
           ∷ record {
             cells = (1, cell (0 ∷ 2 ∷ 3 ∷ [])) ∷ (2, cell (2 ∷ 1 ∷ 4 ∷ [])) ∷ [];
             vertices = 0 ∷ 1 ∷ 2 ∷ 3 ∷ 4 ∷ [];
-            at = [] ∷ [] ∷ [] ∷ [] ∷ [] ∷ [];
+            at = replicate 5 origin;
             sets = (0 ∷ 2 ∷ 3 ∷ []) ∷ (1 ∷ 2 ∷ 4 ∷ []) ∷ (0 ∷ []) ∷ (1 ∷ []) ∷ (2 ∷ []) ∷ (3 ∷ []) ∷ (4 ∷ [])
                 ∷ (0 ∷ 2 ∷ []) ∷ (2 ∷ 3 ∷ []) ∷ (0 ∷ 3 ∷ []) ∷ (1 ∷ 2 ∷ []) ∷ (1 ∷ 4 ∷ []) ∷ (2 ∷ 4 ∷ []) ∷ [];
             labels = [] ∷ [] ∷ [] ∷ [] ∷ [];

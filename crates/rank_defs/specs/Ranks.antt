@@ -1,5 +1,5 @@
 -- What each rank holds and owns, at any overlap. A part assigns a rank to each cell, as a list by the cells' places.
-use Rattle.std.specs.Prelude.{◌≡◌, ℕ, zero, suc, ◌<◌, min, Bool, not, ◌||◌, ◌==◌, List, [], ◌∷◌, length, map, filter, find, fold, slice_index, Option, Some, None, option_map, unwrap_or}
+use Rattle.std.specs.Prelude.{◌≡◌, ℕ, zero, suc, ◌<◌, ◌≤◌, min, Bool, not, ◌||◌, ◌==◌, List, [], ◌∷◌, length, map, filter, find, fold, slice_index, Option, Some, None, option_map, unwrap_or}
 use Rattle.std.specs.List.{list_any, AllByRecursion}
 use Rattle.mesh_defs.specs.Mesh.{Mesh, Cell, placed_cells}
 use Rattle.mesh_defs.specs.Points.{Point, Sight, point_of, shows, sights, contains}
@@ -9,6 +9,12 @@ use Rattle.mesh_defs.specs.Diagram.{chart}
 pub record IsAssignment (m : Mesh) (n : ℕ) (a : List ℕ) : Type 0 where
   pub count : length a ≡ length m.cells
   pub in_range : AllByRecursion (λ r. r < n) a
+
+-- a right assignment: each cell of the mesh has one of 1 to 64 ranks
+pub record IsRightAssignment (m : Mesh) (n : ℕ) (a : List ℕ) : Type 0 where
+  pub some_rank : 1 ≤ n
+  pub few_ranks : n ≤ 64
+  pub each : IsAssignment m n a
 
 -- the least of some numbers
 abbrev pub least : List ℕ → Option ℕ

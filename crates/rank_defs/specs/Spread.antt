@@ -7,13 +7,14 @@ use Rattle.mesh_defs.specs.declared.Place.TheVariants.{Node, Element}
 use Rattle.plain_lists.specs.Lists.{below}
 use Rattle.mesh_defs.specs.Tables.{dim_of}
 use Rattle.mesh_defs.specs.Mesh.{Mesh, Cell, Mark, Section}
-use Rattle.mesh_defs.specs.Points.{Point, Sight, point_of, shows, sights, vertex_sights, contains}
+use Rattle.mesh_defs.specs.Points.{Point, Sight, point_of, shows, sights, vertex_sights, contains, marked_point}
+use Rattle.mesh_defs.specs.RightMesh.{IsRightMesh}
 use Rattle.mesh_defs.specs.Diagram.{Diagram, firsts, chart, diagram, place_in}
 use Rattle.sf_defs.specs.declared.Leaf.{Leaf}
 use Rattle.sf_defs.specs.Forest.{Forest, leaf}
-use Rattle.plex_defs.specs.Labels.{marked_point, mesh_label}
-use Rattle.plex_defs.specs.Fields.{row_values, fields}
-use Rattle.rank_defs.specs.Ranks.{assigned, held_cells, held, owner}
+use Rattle.plex_defs.specs.Labels.{mesh_label}
+use Rattle.plex_defs.specs.Fields.{AreRightDofs, row_values, fields}
+use Rattle.rank_defs.specs.Ranks.{IsRightAssignment, assigned, held_cells, held, owner}
 
 -- ---- forests of points
 
@@ -197,12 +198,26 @@ plain_shared m dofs a n = record {
 
 -- ---- standing for a mesh under an assignment
 
--- a distributed mesh stands for this mesh, these dofs and this assignment with k layers
-abbrev pub IsDist : PlainDist → Mesh → List (List ℕ) → List ℕ → ℕ → ℕ → Type 0
-IsDist d m dofs a n k = d ≡ plain_dist m dofs a n k
+-- Only right meshes, counts and assignments are stood for. Without that one value could stand for two meshes whose further
+-- course differs: two empty meshes of different dimension have one list of shared points, and different diagrams.
 
-abbrev pub IsScatter : PlainScatter → Mesh → List (List ℕ) → List ℕ → ℕ → Type 0
-IsScatter s m dofs a n = s ≡ plain_scatter m dofs a n
+-- what ranks are given stands for this mesh, these dofs and this assignment to n ranks
+pub record IsScatter (s : PlainScatter) (m : Mesh) (dofs : List (List ℕ)) (a : List ℕ) (n : ℕ) : Type 0 where
+  pub mesh : IsRightMesh m
+  pub counts : AreRightDofs dofs
+  pub assignment : IsRightAssignment m n a
+  pub value : s ≡ plain_scatter m dofs a n
 
-abbrev pub IsShared : PlainShared → Mesh → List (List ℕ) → List ℕ → ℕ → Type 0
-IsShared s m dofs a n = s ≡ plain_shared m dofs a n
+-- so do the points that they see by themselves, and which of them are the same
+pub record IsShared (s : PlainShared) (m : Mesh) (dofs : List (List ℕ)) (a : List ℕ) (n : ℕ) : Type 0 where
+  pub mesh : IsRightMesh m
+  pub counts : AreRightDofs dofs
+  pub assignment : IsRightAssignment m n a
+  pub value : s ≡ plain_shared m dofs a n
+
+-- so does a distributed mesh, with k layers of overlap
+pub record IsDist (d : PlainDist) (m : Mesh) (dofs : List (List ℕ)) (a : List ℕ) (n k : ℕ) : Type 0 where
+  pub mesh : IsRightMesh m
+  pub counts : AreRightDofs dofs
+  pub assignment : IsRightAssignment m n a
+  pub value : d ≡ plain_dist m dofs a n k

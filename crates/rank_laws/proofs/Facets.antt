@@ -22,9 +22,10 @@ use Rattle.mesh_laws.proofs.Turns.{relative-vertex, sorted-one}
 use Rattle.mesh_laws.proofs.Entries.{relative-edge}
 use Rattle.mesh_laws.proofs.Vertices.{vertex_found}
 use Rattle.mesh_laws.proofs.Containing.{all_sights_of, all_faces_of}
-use Rattle.rank_laws.specs.Conditions.{IsFlatOrSolid, IsSoundCell, IsSoundMesh}
+use Rattle.mesh_defs.specs.RightMesh.{IsFlatOrSolid, IsSoundCell, IsSoundMesh}
 use Rattle.rank_laws.proofs.Found.{IsSeen, shown-in_strata, shown-in_stratum, found-first, one-entry, two-entries, poly-zero, poly-one, poly-told, length-sorted, edge-there}
-use Rattle.rank_laws.proofs.Shapes.{HasShape, are_corners, is_pair, is_edge_of, is_side_of, is_face_of, edges-are_pairs, sides-are_edges, facets-are_faces, picked-differ, picked-shape, strata-shape, all-of_strata, all-of_cells}
+use Rattle.mesh_defs.proofs.RightMeshes.{are_corners}
+use Rattle.rank_laws.proofs.Shapes.{HasShape, is_pair, is_edge_of, is_side_of, is_face_of, edges-are_pairs, sides-are_edges, facets-are_faces, picked-differ, picked-shape, strata-shape, all-of_strata, all-of_cells}
 
 -- ---- facets that are seen
 

@@ -23,7 +23,7 @@ use Rattle.sf_defs.specs.Asks.{step, Entry, Replays, after_ask}
 use Rattle.sf_defs.specs.Rounds.{Round, entry_at, in_order, places_of, places_on}
 use Rattle.rank_defs.specs.Ranks.{IsAssignment, rank_of, assigned, ranks_at, owner, is_shared, own_key}
 use Rattle.rank_defs.specs.Home.{precedes, put_in_order, by_vertices, shared_points, home_points, home_words, home_asks, IsHomeRound}
-use Rattle.rank_laws.specs.Conditions.{in_some}
+use Rattle.mesh_defs.specs.RightMesh.{in_some}
 use Rattle.rank_laws.proofs.Lists.{least-some}
 use Rattle.rank_laws.proofs.Owning.{owner-assigned, owner-below}
 use Rattle.rank_laws.proofs.OwnKeys.{given-among, key-of_own_keys}

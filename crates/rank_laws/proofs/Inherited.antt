@@ -14,8 +14,9 @@ use Rattle.mesh_defs.specs.Mesh.{Mesh, Cell}
 use Rattle.mesh_defs.specs.Points.{Point, Sight, point_on, point_of, shows, sights_of, vertex_sight, contains, cell_face, cell_edge}
 use Rattle.mesh_laws.proofs.Firsts.{shown_itself}
 use Rattle.mesh_laws.proofs.Containing.{sights_of-any_place, vertex-contained, all_sights_of, all_faces_of}
-use Rattle.rank_laws.specs.Conditions.{IsFlatOrSolid, IsSoundCell}
-use Rattle.rank_laws.proofs.Shapes.{are_corners, is_pair, is_edge_of, is_side_of, is_face_of, edges-are_pairs, sides-are_edges, facets-are_faces}
+use Rattle.mesh_defs.specs.RightMesh.{IsFlatOrSolid, IsSoundCell}
+use Rattle.mesh_defs.proofs.RightMeshes.{are_corners}
+use Rattle.rank_laws.proofs.Shapes.{is_pair, is_edge_of, is_side_of, is_face_of, edges-are_pairs, sides-are_edges, facets-are_faces}
 use Rattle.rank_laws.proofs.Found.{two-entries, poly-one, edge-there}
 use Rattle.rank_laws.proofs.TurnedEdges.{pair-below}
 

@@ -12,7 +12,6 @@ pub mod Facets
 pub mod Arranging
 pub mod Forests
 pub mod Inverting
-pub mod SoundRows
 pub mod TurnedEdges
 pub mod Inherited
 pub mod ChartsClosed

@@ -15,7 +15,7 @@ use Rattle.mesh_defs.specs.Mesh.{Mesh, Cell, placed_cells}
 use Rattle.mesh_defs.specs.Points.{Point, Sight, point_of, contains}
 use Rattle.mesh_defs.specs.Diagram.{strata, chart}
 use Rattle.rank_defs.specs.Ranks.{IsAssignment, least, rank_of, assigned, touches, layer, held_cells, held, ranks_at, owner, owned}
-use Rattle.rank_laws.specs.Conditions.{UsesVertices, in_some}
+use Rattle.mesh_defs.specs.RightMesh.{UsesVertices, in_some}
 
 -- an assigned cell of a rank contains a point just where the rank is one of those at the point
 pub in_assigned : (m : Mesh) (a : List ℕ) (r : ℕ) (p : Point) → in_some p (assigned m a r) ≡ list_any (λ q. q == r) (ranks_at m a p)

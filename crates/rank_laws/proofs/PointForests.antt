@@ -15,7 +15,7 @@ use Rattle.sf_defs.specs.declared.Leaf.{Leaf}
 use Rattle.sf_defs.specs.Forest.{Forest, leaf, root_at, leaves_on, or_else, first_some, has_root, ForestFlaw, flaw_on, flaw, IsForest}
 use Rattle.rank_defs.specs.Ranks.{IsAssignment, held_cells, held, owner, owned}
 use Rattle.rank_defs.specs.Spread.{charts, place_at_owner, leaves_at_owners, owned_places, point_forest, migration_forest, trace}
-use Rattle.rank_laws.specs.Conditions.{in_some}
+use Rattle.mesh_defs.specs.RightMesh.{in_some}
 use Rattle.rank_laws.proofs.Owning.{held-are_cells, layers-have, owner-assigned, owner-below}
 
 -- ---- leaves without a flaw

@@ -15,7 +15,7 @@ use Rattle.mesh_laws.proofs.Firsts.{shows-true}
 use Rattle.sf_defs.specs.Forest.{leaf, root_at, root_of, through, compose}
 use Rattle.rank_defs.specs.Ranks.{IsAssignment, held, owner}
 use Rattle.rank_defs.specs.Spread.{charts, place_at_owner, leaves_at_owners, owned_places, migration_forest}
-use Rattle.rank_laws.specs.Conditions.{in_some}
+use Rattle.mesh_defs.specs.RightMesh.{in_some}
 use Rattle.rank_laws.proofs.Forests.{is_local}
 use Rattle.rank_laws.proofs.Owning.{owner-below}
 use Rattle.rank_laws.proofs.PointForests.{IsPoint, chart-points, owner-shows}

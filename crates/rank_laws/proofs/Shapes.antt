@@ -14,17 +14,14 @@ use Rattle.mesh_defs.specs.Points.{Sight, sights_of, sights, vertex_sight, verte
 use Rattle.mesh_defs.specs.Diagram.{firsts, stratum, strata}
 use Rattle.mesh_laws.proofs.Firsts.{firsts-all}
 use Rattle.mesh_laws.proofs.Containing.{all_sights_of}
-use Rattle.rank_laws.specs.Conditions.{IsSoundCell, IsSoundMesh}
+use Rattle.mesh_defs.specs.RightMesh.{IsSoundCell, IsSoundMesh}
+use Rattle.mesh_defs.proofs.RightMeshes.{are_corners}
 
 -- ---- the tables
 
 -- these corners or the same the other way round are an edge
 abbrev pub is_edge_of : Poly → List ℕ → Bool
 is_edge_of p e = list_any (λ f. same_list f e || same_list f (get_or e 1 0 ∷ get_or e 0 0 ∷ [])) (edges_of p)
-
--- different corners below n
-abbrev pub are_corners : ℕ → List ℕ → Bool
-are_corners n cs = list_all (λ c. nat_lt c n) cs && list_all (λ j. list_all (λ i. not (get_or cs i 0 == get_or cs j 0)) (below j)) (below (length cs))
 
 -- two different corners below n
 abbrev pub is_pair : ℕ → List ℕ → Bool

@@ -18,7 +18,7 @@ use Rattle.mesh_defs.specs.Diagram.{firsts_after, firsts, stratum, strata}
 use Rattle.mesh_defs.specs.Sights.{points_differ}
 use Rattle.mesh_laws.proofs.Firsts.{same_point-sym, shows-own, find-firsts, firsts-all}
 use Rattle.mesh_laws.proofs.Containing.{shows-vertex}
-use Rattle.rank_laws.specs.Conditions.{IsFlatOrSolid}
+use Rattle.mesh_defs.specs.RightMesh.{IsFlatOrSolid}
 
 -- ---- points that differ
 

@@ -13,7 +13,8 @@ use Rattle.plain_lists.proofs.Below.{picked-picked}
 use Rattle.mesh_defs.specs.Tables.{dim_of, corner_count, facets_of, edges_of}
 use Rattle.mesh_defs.specs.Orientation.{rotations, reflections, orientations, corners_under, act, relative}
 use Rattle.mesh_laws.proofs.Turns.{relative-carries}
-use Rattle.rank_laws.proofs.Shapes.{are_corners, is_pair, edges-are_pairs}
+use Rattle.mesh_defs.proofs.RightMeshes.{are_corners}
+use Rattle.rank_laws.proofs.Shapes.{is_pair, edges-are_pairs}
 use Rattle.rank_laws.proofs.Found.{two-entries, sorted-turned}
 
 -- each edge of the corners is an edge of the corners under an orientation, one way or the other
