@@ -1,10 +1,11 @@
 -- Every chart of a rank has the facets of its points.
 use Rattle.std.proofs.Common.{◌≡◌, ℕ, min, max, Bool, true, false, not, ◌&&◌, ◌==◌, List, [], ◌∷◌, map, length, slice_index, ℤ, Some, refl, sym, ap, ◌∙◌, subst, subst₂, inl, inr, ◌⊎◌, ⊎_elim, arith}
-use Rattle.std.specs.Prelude.{option_map, option_and_then, is_none}
+use Rattle.std.specs.Prelude.{Contains, option_map, option_and_then, is_none}
 use Rattle.std.specs.List.{list_any, AllByRecursion, filter}
 use Rattle.std.specs.Cmp.Lexicographic.{same_text}
 use Rattle.std.proofs.lemmas.Bool.{and_parts, and_from, eqb-true, eq-eqb, ne_eqb, or_cases, both_ways, not-true, cases_eq, and_left}
 use Rattle.std.proofs.lemmas.List.Folds.{list_any-append}
+use Rattle.std.proofs.lemmas.List.Elements.{All-contains, All-contains_itself, All-from_recursion, recursion_from_All}
 use Rattle.mesh_defs.specs.declared.Poly.{Poly}
 use Rattle.mesh_defs.specs.declared.Poly.TheVariants.{Vertex, Segment}
 use Rattle.plain_lists.specs.Lists.{below, same_list, sorted, picked, differ_as_sets}
@@ -21,7 +22,7 @@ use Rattle.mesh_laws.proofs.Firsts.{shows-true}
 use Rattle.mesh_laws.proofs.Turns.{sorted-min_max}
 use Rattle.mesh_laws.proofs.Containing.{sights_of-any_place}
 use Rattle.rank_defs.specs.Ranks.{held_cells, held}
-use Rattle.rank_laws.specs.Conditions.{IsSoundCell, IsSoundMesh, CellsDiffer, in_some}
+use Rattle.mesh_defs.specs.RightMesh.{IsSoundCell, IsSoundMesh, CellsDiffer, in_some, AreCells}
 use Rattle.rank_laws.proofs.Strata.{strata-first}
 use Rattle.rank_laws.proofs.Owning.{is_held}
 use Rattle.rank_laws.proofs.Shapes.{HasShape, sights_of-shape, strata-shape, all-of_strata, all-of_cells, is_face_of, facets-are_faces}
@@ -221,28 +222,51 @@ module _ (m : Mesh) (sound : IsSoundMesh m) (accepted : IsAccepted m) (differ : 
 
   -- ---- charts
 
-  -- each facet of each point of a chart is shown by the chart
-  pub chart-closed : (a : List ℕ) (r k : ℕ) → AllByRecursion (λ s. AllByRecursion (λ (f : Facet). list_any (shows (point_on f.poly (picked s.arrangement f.corners))) (held m a r k) ≡ true) (facets_of s.poly)) (held m a r k)
-  unfolding held chart
-  chart-closed a r k = all_both IsKnown (λ s. in_some (point_of s) (held_cells m a r k) ≡ true) (λ s. AllByRecursion (λ (f : Facet). list_any (shows (point_on f.poly (picked s.arrangement f.corners))) (filter has (strata m)) ≡ true) (facets_of s.poly)) point (filter has (strata m))
-      (all_filter IsKnown has (strata m) strata-known) (filter_passing has (strata m))
-    where
-      has : Sight → Bool
-      has s = in_some (point_of s) (held_cells m a r k)
+  -- the facets of a point are points of these cells
+  abbrev pub Inside : List (ℕ × Cell) → Sight → Type 0
+  Inside cells s = AllByRecursion (λ (f : Facet). in_some (point_on f.poly (picked s.arrangement f.corners)) cells ≡ true) (facets_of s.poly)
 
-      -- what is known of a held cell
-      Cells : ℕ × Cell → Type 0
-      Cells d = IsPlaced d × ((q : ℕ × Cell → Bool) → q d ≡ true → list_any q (held_cells m a r k) ≡ true)
+  module _ (cells : List (ℕ × Cell)) (are : AreCells m cells) where
+    has : Sight → Bool
+    has s = in_some (point_of s) cells
 
-      cells : AllByRecursion Cells (held_cells m a r k)
-      cells = all_both IsPlaced (λ (d : ℕ × Cell). (q : ℕ × Cell → Bool) → q d ≡ true → list_any q (held_cells m a r k) ≡ true) Cells (λ d g s. (g, s)) (held_cells m a r k) (subst (AllByRecursion IsPlaced) (sym (is_held m a r k).1) (all_filter IsPlaced (is_held m a r k).0 (placed_cells m) cells-placed)) (stands (held_cells m a r k))
+    -- what is known of one of the cells
+    Known : ℕ × Cell → Type 0
+    Known d = IsPlaced d × ((q : ℕ × Cell → Bool) → q d ≡ true → list_any q cells ≡ true)
 
-      point : (s : Sight) → IsKnown s → in_some (point_of s) (held_cells m a r k) ≡ true → AllByRecursion (λ (f : Facet). list_any (shows (point_on f.poly (picked s.arrangement f.corners))) (filter has (strata m)) ≡ true) (facets_of s.poly)
-      point s known h =
-          let (d, (placed, there), holds) = among Cells (λ (d : ℕ × Cell). contains d.1 (point_of s)) (held_cells m a r k) cells h in
-          all_both (λ (f : Facet). IsSeen m f.poly (picked s.arrangement f.corners)) (λ (f : Facet). contains d.1 (point_on f.poly (picked s.arrangement f.corners)) ≡ true) (λ (f : Facet). list_any (shows (point_on f.poly (picked s.arrangement f.corners))) (filter has (strata m)) ≡ true)
-          (λ f seen inside. shown (point_on f.poly (picked s.arrangement f.corners)) (found-any (shows (point_on f.poly (picked s.arrangement f.corners))) (strata m) seen.point seen.found) (there (λ (e : ℕ × Cell). contains e.1 (point_on f.poly (picked s.arrangement f.corners))) inside))
-          (facets_of s.poly) known.covers (kept d.0 d.1 placed s known holds)
-        where
-          shown : (q : Point) → list_any (shows q) (strata m) ≡ true → in_some q (held_cells m a r k) ≡ true → list_any (shows q) (filter has (strata m)) ≡ true
-          shown q x y = any_filter (shows q) has (strata m) ∙ any_weaker (shows q) (λ t. has t && shows q t) (λ t e. and_from (has t) (shows q t) (subst (λ p. in_some p (held_cells m a r k) ≡ true) (shows-true q t e) y) e) (strata m) x
+    known-cells : AllByRecursion Known cells
+    unfolding Known
+    known-cells = all_both IsPlaced (λ (d : ℕ × Cell). (q : ℕ × Cell → Bool) → q d ≡ true → list_any q cells ≡ true) Known (λ d g s. (g, s)) cells
+        (all_weaker (Contains (placed_cells m)) IsPlaced (λ d in_mesh. All-contains IsPlaced (placed_cells m) d (All-from_recursion IsPlaced (placed_cells m) cells-placed) in_mesh) cells are) (stands cells)
+
+    inside-point : (s : Sight) → IsKnown s → has s ≡ true → Inside cells s
+    unfolding has Known
+    inside-point s known h =
+        let (d, (placed, there), holds) = among Known (λ (d : ℕ × Cell). contains d.1 (point_of s)) cells known-cells h in
+        all_weaker (λ (f : Facet). contains d.1 (point_on f.poly (picked s.arrangement f.corners)) ≡ true) (λ (f : Facet). in_some (point_on f.poly (picked s.arrangement f.corners)) cells ≡ true)
+        (λ f inside. there (λ (e : ℕ × Cell). contains e.1 (point_on f.poly (picked s.arrangement f.corners))) inside) (facets_of s.poly) (kept d.0 d.1 placed s known holds)
+
+    -- the facets of the points of a chart are points of its cells
+    pub chart-inside : AllByRecursion (Inside cells) (chart m cells)
+    unfolding chart has
+    chart-inside = all_both IsKnown (λ s. has s ≡ true) (Inside cells) inside-point (filter has (strata m)) (all_filter IsKnown has (strata m) strata-known) (filter_passing has (strata m))
+
+    -- each facet of each point of a chart is shown by the chart
+    pub chart-closed : AllByRecursion (λ s. AllByRecursion (λ (f : Facet). list_any (shows (point_on f.poly (picked s.arrangement f.corners))) (chart m cells) ≡ true) (facets_of s.poly)) (chart m cells)
+    unfolding chart has
+    chart-closed = all_both (Covers m sound accepted) (Inside cells) (λ s. AllByRecursion (λ (f : Facet). list_any (shows (point_on f.poly (picked s.arrangement f.corners))) (filter has (strata m)) ≡ true) (facets_of s.poly))
+        (λ s covers inside. all_both (λ (f : Facet). IsSeen m f.poly (picked s.arrangement f.corners)) (λ (f : Facet). in_some (point_on f.poly (picked s.arrangement f.corners)) cells ≡ true) (λ (f : Facet). list_any (shows (point_on f.poly (picked s.arrangement f.corners))) (filter has (strata m)) ≡ true)
+        (λ f seen there. shown (point_on f.poly (picked s.arrangement f.corners)) (found-any (shows (point_on f.poly (picked s.arrangement f.corners))) (strata m) seen.point seen.found) there) (facets_of s.poly) covers inside)
+        (filter has (strata m)) (all_filter (Covers m sound accepted) has (strata m) (strata-cover m sound accepted)) chart-inside
+      where
+        shown : (q : Point) → list_any (shows q) (strata m) ≡ true → in_some q cells ≡ true → list_any (shows q) (filter has (strata m)) ≡ true
+        shown q x y = any_filter (shows q) has (strata m) ∙ any_weaker (shows q) (λ t. has t && shows q t) (λ t e. and_from (has t) (shows q t) (subst (λ p. in_some p cells ≡ true) (shows-true q t e) y) e) (strata m) x
+
+-- the cells that a rank holds are cells of the mesh
+pub held-cells : (m : Mesh) (a : List ℕ) (r k : ℕ) → AreCells m (held_cells m a r k)
+held-cells m a r k = subst (AreCells m) (sym (is_held m a r k).1) (all_filter (Contains (placed_cells m)) (is_held m a r k).0 (placed_cells m) (recursion_from_All (Contains (placed_cells m)) (placed_cells m) (All-contains_itself (placed_cells m))))
+
+-- the chart of a rank is that of the cells that it holds
+pub held-chart : (m : Mesh) (a : List ℕ) (r k : ℕ) → chart m (held_cells m a r k) ≡ held m a r k
+unfolding held
+held-chart m a r k = refl

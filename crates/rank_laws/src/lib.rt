@@ -7,7 +7,7 @@ ghost use Rattle.std.specs.Prelude.{◌≡◌, ◌≢◌, if◌then◌else◌, B
 ghost use Rattle.std.specs.List.{list_any};
 ghost use Rattle.plain_lists.specs.Lists.{below, picked};
 ghost use Rattle.mesh_defs.specs.Tables.{Facet, facets_of};
-ghost use Rattle.mesh_defs.specs.Mesh.{Mesh, placed_cells};
+ghost use Rattle.mesh_defs.specs.Mesh.{Mesh, Cell, placed_cells};
 ghost use Rattle.mesh_defs.specs.Points.{Point, Sight, point_on, point_of, shows, sights, key, arrangement};
 ghost use Rattle.mesh_defs.specs.Diagram.{strata, chart, diagram, IsAccepted};
 ghost use Rattle.mesh_defs.specs.Sights.{points_differ};
@@ -17,7 +17,7 @@ ghost use Rattle.rank_defs.specs.Ranks.{IsAssignment, least, assigned, held_cell
 ghost use Rattle.rank_defs.specs.Spread.{charts, point_forest, migration_forest, trace};
 ghost use Rattle.rank_defs.specs.Home.{home_points, IsHomeRound};
 ghost use Rattle.sf_defs.specs.Rounds.{Round};
-ghost use Rattle.rank_laws.specs.Conditions.{UsesVertices, IsFlatOrSolid, IsSoundMesh, CellsDiffer, in_some};
+ghost use Rattle.mesh_defs.specs.RightMesh.{UsesVertices, IsFlatOrSolid, IsSoundMesh, CellsDiffer, AreCells, in_some};
 
 // ---- points
 
@@ -32,9 +32,12 @@ pub fn points_stand_once()
 {}
 
 /// The arrangements of an accepted mesh of sound cells arrange its diagram: closure and star, which are defined for
-/// diagrams that lists arrange, may be taken by them.
+/// diagrams that lists arrange, may be taken by them. Where no two cells have the same vertices, they also arrange the
+/// diagram of any of the cells, and so that of a rank.
 pub fn arrangements_arrange_the_diagram()
-    ensures { (m : Mesh) → IsSoundMesh m → IsAccepted m → IsArranged (diagram m (placed_cells m)) (arrangements (chart m (placed_cells m))) }
+    ensures all_cells { (m : Mesh) → IsSoundMesh m → IsAccepted m → IsArranged (diagram m (placed_cells m)) (arrangements (chart m (placed_cells m))) }
+    ensures some_cells { (m : Mesh) (cells : List (ℕ × Cell)) → IsSoundMesh m → IsAccepted m → CellsDiffer m → AreCells m cells → IsArranged (diagram m cells) (arrangements (chart m cells)) }
+    ensures cells_of_ranks { (m : Mesh) (a : List ℕ) (r k : ℕ) → IsSoundMesh m → IsAccepted m → CellsDiffer m → IsArranged (diagram m (held_cells m a r k)) (arrangements (held m a r k)) }
 {}
 
 // ---- what ranks hold and own
