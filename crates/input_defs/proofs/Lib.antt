@@ -9,3 +9,4 @@ pub mod MadeRows
 pub mod RefusalRows
 pub mod TextRows
 pub mod AheadRows
+pub mod RightRows

@@ -40,7 +40,7 @@ abbrev rows_and_first : Section → List Row × Option (List ℤ)
 rows_and_first s = (s.rows, row_values s 0)
 
 -- five nodes, with these lines of elements and data
-abbrev with_elements : List ℕ → List ℕ
+abbrev pub with_elements : List ℕ → List ℕ
 with_elements lines = codes "$MeshFormat\n2.2 0 8\n$EndMeshFormat\n$Nodes\n5\n1 0 0 0\n2 1 0 0\n3 0 1 0\n4 1 1 0\n9 0 0 1\n$EndNodes\n$Elements\n" ++ lines
 
 -- two elements on the same nodes: the second is merged, and adds its label value

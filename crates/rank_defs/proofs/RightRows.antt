@@ -140,8 +140,8 @@ mark_that_is_lost = refl
 
 -- With at most 250,000 cells each key fits 32 bits, and so do the words that dofs give fit 64 bits: word 15 of a point that
 -- all cells contain. With 2^26 cells a key would not fit, with 2^31 cells such a word.
-limits : map (λ cells. nat_lt (64 * cells) (2 ^ 32)) (250000 ∷ (2 ^ 26) ∷ []) ≡ true ∷ false ∷ []
-limits = refl
+keys_fit : map (λ cells. nat_lt (64 * cells) (2 ^ 32)) (250000 ∷ (2 ^ 26) ∷ []) ≡ true ∷ false ∷ []
+keys_fit = refl
 
 weights_fit : map (λ cells. nat_lt (16 * (cells * (cells + 1) / 2)) (2 ^ 64)) (250000 ∷ (2 ^ 31) ∷ []) ≡ true ∷ false ∷ []
 weights_fit = refl
