@@ -1,9 +1,11 @@
-//! Tests of the crates on which the others stand: operations on words, the tables and orientations
+//! Tests of the crates on which the others stand: keys and dimensions, operations on words, the tables and orientations
 //! of polytopes, and charts with cones.
 #![tactic(auto)]
 
 #[cfg(test)]
 mod chart;
+#[cfg(test)]
+mod keys;
 #[cfg(test)]
 mod operations;
 #[cfg(test)]

@@ -3,13 +3,13 @@
 
 mod dim;
 mod key;
+mod laws;
 mod limits;
 mod no_memory;
-#[cfg(test)]
-mod tests;
 
 pub use dim::Dim;
 pub use key::PointKey;
+pub use laws::{dimensions_are_ordered_by_number, keys_are_ordered_by_number, limits_are_these};
 pub use limits::{
     MAX_CELLS, MAX_DATA_SECTIONS, MAX_DOFS, MAX_DOFS_LINES, MAX_ELEMENTS, MAX_FILE_BYTES,
     MAX_NAMES, MAX_NODES, MAX_OVERLAP, MAX_OVERLAP_CELLS, MAX_RANKS, MAX_STEPS,

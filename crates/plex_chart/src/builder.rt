@@ -2,7 +2,7 @@ ghost use Rattle.std.specs.Prelude.{◌≡◌, ◌+◌, ◌-◌, ◌<◌, ◌≤
 ghost use Rattle.std.specs.List.{AllByRecursion};
 ghost use Rattle.mesh_defs.specs.declared.ConeEntry.{ConeEntry as Entry};
 ghost use Rattle.mesh_defs.specs.Tables.{dim_of, facets_of};
-ghost use Rattle.plex_base.specs.Dim.{number_of};
+ghost use Rattle.plex_base.specs.Dim.{dim_number};
 ghost use Rattle.plex_chart.specs.Chart.{IsInStratum, IsWhole};
 
 use crate::cones::Cones;
@@ -46,10 +46,10 @@ impl PlexBuilder {
         faces: u32,
         edges: u32,
     ) -> PlexBuilder
-        requires dim { 2 ≤ number_of dim }
-        requires flat { number_of dim ≡ 2 → faces ≡ 0 }
+        requires dim { 2 ≤ dim_number dim }
+        requires flat { dim_number dim ≡ 2 → faces ≡ 0 }
         requires fits { cells + vertices + faces + edges < 2 ^ 32 }
-        ensures { result ≡ record { dim = number_of dim; cells = cells; vertices = vertices; faces = faces; edges = edges; points = [] } }
+        ensures { result ≡ record { dim = dim_number dim; cells = cells; vertices = vertices; faces = faces; edges = edges; points = [] } }
     {
         PlexBuilder {
             strata: Strata {

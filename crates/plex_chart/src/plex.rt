@@ -2,7 +2,7 @@ ghost use Rattle.std.specs.Prelude.{◌≡◌, ◌<◌, ◌≤◌, length};
 ghost use Rattle.std.specs.List.{All};
 ghost use Rattle.mesh_defs.specs.declared.ConeEntry.{ConeEntry as Entry};
 ghost use Rattle.mesh_defs.specs.Tables.{dim_of, facets_of};
-ghost use Rattle.plex_base.specs.Dim.{number_of};
+ghost use Rattle.plex_base.specs.Dim.{dim_number};
 ghost use Rattle.plex_chart.specs.Chart.{stratum_range, point_at, IsInStratum, FitsChart, IsWhole};
 
 use crate::cones::Cones;
@@ -45,7 +45,7 @@ impl Plex {
 
     /// The dimension of the cells, 2 or 3: `DMGetDimension`.
     pub fn dim(&self) -> Dim
-        ensures { number_of result ≡ self.now.dim }
+        ensures { dim_number result ≡ self.now.dim }
     {
         self.strata.dim
     }
@@ -64,8 +64,8 @@ impl Plex {
     /// The points of a dimension, from the first to after the last: `DMPlexGetDepthStratum`. Empty
     /// where the diagram has none.
     pub fn stratum(&self, d: Dim) -> Range<u32>
-        ensures start { result.start ≡ (stratum_range self.now (number_of d)).0 }
-        ensures end { result.end ≡ (stratum_range self.now (number_of d)).1 }
+        ensures start { result.start ≡ (stratum_range self.now (dim_number d)).0 }
+        ensures end { result.end ≡ (stratum_range self.now (dim_number d)).1 }
         ensures within { result.end ≤ length self.now.points }
     {
         self.strata.range(d)

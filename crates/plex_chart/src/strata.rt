@@ -1,5 +1,5 @@
 ghost use Rattle.std.specs.Prelude.{◌≡◌, []};
-ghost use Rattle.plex_base.specs.Dim.{number_of};
+ghost use Rattle.plex_base.specs.Dim.{dim_number};
 ghost use Rattle.plex_chart.specs.Chart.{HasStrata, stratum_range};
 
 use plex_base::Dim;
@@ -21,8 +21,8 @@ impl Strata {
     /// The points of a dimension.
     pub(crate) fn range(&self, d: Dim) -> Range<u32>
         requires { HasStrata (diagram_of self.now []) }
-        ensures start { result.start ≡ (stratum_range (diagram_of self.now []) (number_of d)).0 }
-        ensures end { result.end ≡ (stratum_range (diagram_of self.now []) (number_of d)).1 }
+        ensures start { result.start ≡ (stratum_range (diagram_of self.now []) (dim_number d)).0 }
+        ensures end { result.end ≡ (stratum_range (diagram_of self.now []) (dim_number d)).1 }
     {
         if d.number() == self.dim.number() {
             return 0..self.cells;

@@ -8,7 +8,7 @@ ghost use Rattle.plex_serial.specs.Corners.{AreApart, triangle_on};
 
 use crate::edges::{Edge, EdgeTable};
 use mesh_defs::ConeEntry;
-use plex_base::NoMemory;
+use plex_base::{NoMemory, PointKey};
 use std::alloc::Global;
 
 /// The edges of a mesh, by rising key, and the cones of its cells.
@@ -47,9 +47,8 @@ fn cell_cone(
     ensures table { OnOk result (table.new ≡ with_sights table.old (edge_sights_of (cell, triangle_on corners))) }
 {
     let [a, b, c] = corners;
-    let key = 64 * u64::from(cell) + 8;
-    let first = table.entry(base, key, a, b)?;
-    let second = table.entry(base, key + 1, b, c)?;
-    let third = table.entry(base, key + 2, c, a)?;
+    let first = table.entry(base, PointKey::of_edge(cell, 0).0, a, b)?;
+    let second = table.entry(base, PointKey::of_edge(cell, 1).0, b, c)?;
+    let third = table.entry(base, PointKey::of_edge(cell, 2).0, c, a)?;
     Ok([first, second, third])
 }

@@ -30,7 +30,7 @@ fn push_cell_keys(keys: &mut Vec<PointKey>, cells: u32) -> Result<(), AllocFaile
     ensures { OnOk result (numbers keys.new.items ≡ numbers keys.old.items ++ map (λ c. 64 * c) (below cells)) }
 {
     for c in 0..cells {
-        keys.push(PointKey(64 * u64::from(c)))?;
+        keys.push(PointKey::of_cell(c))?;
     }
     Ok(())
 }
