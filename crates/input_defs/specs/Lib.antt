@@ -12,3 +12,4 @@ pub mod Generated
 pub mod Refused
 pub mod Further
 pub mod Ahead
+pub mod Statuses

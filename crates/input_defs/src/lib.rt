@@ -5,6 +5,8 @@
 //! crates that use them hand on. Lines count from 1; no definition gives a `NoMemory`.
 #![tactic(auto)]
 
+ghost use Rattle.std.specs.Prelude.{◌≡◌};
+
 /// What is wrong in the body of one data section.
 #[derive(Clone, Copy, Debug, PartialEq, Eq)]
 pub enum DataFault {
@@ -127,12 +129,40 @@ pub enum Kind {
 /// How a run ended.
 #[derive(Clone, Copy, Debug, PartialEq, Eq)]
 pub enum Status {
+    /// The whole text is written.
     Done,
+    /// The words are not accepted.
     Words,
+    /// The plan is refused.
     Plan,
+    /// The mesh is refused.
     Mesh,
+    /// A file could not be read.
     ReadFault,
+    /// The output could not be written.
     WriteFault,
+    /// Memory ran out.
     NoMemory,
+    /// A file is longer than the limit.
     TooLong,
+}
+
+impl Status {
+    ghost use Rattle.input_defs.specs.Statuses.{status_code};
+
+    /// The exit status of a program that ends so.
+    pub fn code(self) -> u8
+        ensures { result ≡ status_code self }
+    {
+        match self {
+            Status::Done => 0,
+            Status::Words => 2,
+            Status::Plan => 3,
+            Status::Mesh => 4,
+            Status::ReadFault => 6,
+            Status::WriteFault => 7,
+            Status::NoMemory => 8,
+            Status::TooLong => 9,
+        }
+    }
 }
