@@ -1,2 +1,3 @@
 pub mod Rising
 pub mod Appending
+pub mod Reporting

@@ -1,4 +1,4 @@
--- What a writer holds after several writes, and what waits behind it.
+-- What a writer holds after several writes, and what waits for it.
 use Rattle.std.proofs.Common.{◌≡◌, ℕ, ◌+◌, ◌-◌, ◌≤◌, List, ◌++◌, length, Option, None, Some, take, drop, refl, sym, ap, ◌∙◌, append_assoc, arith}
 use Rattle.std.proofs.KnownBytes.{Appends-trans}
 use Rattle.std.proofs.Math.Seq.{take-add}
@@ -26,7 +26,7 @@ given_stays (Some x) None done waiting p = absurd p
 given_stays (Some x) (Some y) done waiting p =
     ap (λ (z : List ℕ). Some z) (ap (λ (z : List ℕ). z ++ drop done waiting) p ∙ append_assoc x (take done waiting) (drop done waiting) ∙ ap (λ (z : List ℕ). x ++ z) (take-append-drop done waiting))
 
--- what waits when bytes were put behind it
+-- what waits when bytes were put after it
 pub range_extended : (room bytes rest : List ℕ) (start end : ℕ) → start ≤ end → end ≤ length room → take (end + length bytes - start) (drop start (take end room ++ (bytes ++ rest))) ≡ take (end - start) (drop start room) ++ bytes
 range_extended room bytes rest start end h f =
     let front : List ℕ = take (end - start) (drop start room) in

@@ -33,11 +33,11 @@ abbrev pub is_listed : List ℕ → ℕ → Bool
 is_listed fail call = list_any (λ number. nat_eq number call) fail
 
 -- what the shelf gives at the next call: nothing where that call is listed
-abbrev pub given : Files → List ℕ → Told (List ℕ)
-given s name = if is_listed s.fail s.calls then absent else file_under s.files name
+abbrev pub next_file : Files → List ℕ → Told (List ℕ)
+next_file s name = if is_listed s.fail s.calls then absent else file_under s.files name
 
 -- the answer fits what the shelf gives: memory may be short at each call, Failed comes exactly
--- where nothing is given, and TooLong exactly where it is longer than the limit
+-- where there is none, and TooLong exactly where it is longer than the limit
 abbrev pub Answers : {A : Type 0} → Result A ShelfFault → Told (List ℕ) → ℕ → List ℕ → Type 0
 Answers (Err NoMemory) file limit bytes = Unit {0}
 Answers (Err Failed) untold limit bytes = ⊥

@@ -2,7 +2,6 @@ pub mod Counting
 pub mod Files
 pub mod Known
 pub mod Named
-pub mod Printing
 pub mod Room
 pub mod Take
 pub mod Waits

@@ -8,5 +8,5 @@ abbrev pub waits : {W : Type 0} → Waiting W → List ℕ
 waits w = slice_range w.room w.start w.end
 
 -- all that the writer was given, where what it holds is known: that, and then what waits
-abbrev pub given : {W : Type 0} → (W → Option (List ℕ)) → Waiting W → Option (List ℕ)
-given contents w = appended (contents w.writer) (waits w)
+abbrev pub bytes_given : {W : Type 0} → (W → Option (List ℕ)) → Waiting W → Option (List ℕ)
+bytes_given contents w = appended (contents w.writer) (waits w)

@@ -5,9 +5,9 @@ ghost use Rattle.shelf_io.specs.Take.{OnTooLong};
 
 use crate::reading::read_up_to;
 use crate::{Shelf, ShelfFault};
-use std::fs;
 use std::marker::Model;
 use std::rt::Files;
+use std::{fmt, fs};
 
 /// The files of the working folder, by their paths from there.
 ///
@@ -27,6 +27,12 @@ impl<'a, R> Model for FolderShelf<'a, R> {
     ghost view = { λ s. s.faults };
 
     ghost invariant = { λ s. s.faults < 2 ^ 64 };
+}
+
+impl<'a, R> fmt::Debug for FolderShelf<'a, R> {
+    fn fmt<W: fmt::Write>(&self, f: &mut fmt::Formatter<W>) -> fmt::Result {
+        write!(f, "FolderShelf {{ faults: {} }}", self.faults)
+    }
 }
 
 impl<'a, R: Files> FolderShelf<'a, R> {

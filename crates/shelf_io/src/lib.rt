@@ -13,12 +13,10 @@ mod shelf;
 mod sink;
 mod waiting;
 
+pub use cause_defs::Failed;
 pub use folder_shelf::FolderShelf;
 pub use memory_shelf::MemoryShelf;
 pub use memory_sink::MemorySink;
 pub use out_sink::OutSink;
 pub use shelf::{Shelf, ShelfFault};
-pub use sink::{Failed, Sink};
-
-#[cfg(test)]
-mod tests;
+pub use sink::Sink;

@@ -3,7 +3,7 @@ ghost use Rattle.std.specs.Prelude.{◌≡◌, ℕ, ◌+◌, ◌^◌, ◌<◌, �
 ghost use Rattle.cause_defs.specs.Told.{absent, told, IsWhereTold, IsFrontWhereTold};
 ghost use Rattle.cause_defs.specs.Faults.{Rises};
 ghost use Rattle.shelf_io.specs.Take.{OnFailed, UnlessFailed, OnTooLong, IsFailedOrNoMemory, WhereAbsent};
-ghost use Rattle.shelf_io.specs.Files.{Files, Answers, after_take, file_under, fresh_files, given, is_listed};
+ghost use Rattle.shelf_io.specs.Files.{Files, Answers, after_take, file_under, fresh_files, next_file, is_listed};
 ghost use Rattle.shelf_io.specs.Named.{named};
 
 use crate::{Shelf, ShelfFault};
@@ -14,7 +14,7 @@ use std::marker::Model;
 ///
 /// It numbers its calls of `take` from 0. It fails exactly at the calls that it was told, and at a
 /// name that it does not have.
-#[derive(Drop)]
+#[derive(Debug, Drop)]
 pub struct MemoryShelf {
     files: Vec<(String, Vec<u8>)>,
     fail: Vec<u32>,
@@ -72,7 +72,7 @@ impl Shelf for MemoryShelf {
 
         // The state after the call, and exactly which answers come.
         ensures after { self.new ≡ after_take self.old name.now result }
-        ensures answers { Answers result (given self.old name.now) limit into.new.items }
+        ensures answers { Answers result (next_file self.old name.now) limit into.new.items }
 
         // What each shelf promises.
         ensures ok_limit { OnOk result (length into.new.items ≤ limit) }

@@ -1,5 +1,5 @@
 //! A sink in memory, which fails where it is told to.
-ghost use Rattle.std.specs.Prelude.{◌≡◌, ◌^◌, ◌<◌, ◌≤◌, Option, Some, OnOk, OnErr, length, is_err, take};
+ghost use Rattle.std.specs.Prelude.{◌≡◌, ◌^◌, ◌<◌, ◌≤◌, true, Option, Some, OnOk, OnErr, length, is_err, take};
 ghost use Rattle.cause_defs.specs.Faults.{Rises};
 ghost use Rattle.cause_defs.specs.Written.{Prints, AreFlushed};
 ghost use Rattle.shelf_io.specs.Room.{Room, fresh_room, listed_at, after_write, write_fails, after_flush, flush_fails, most_taken};
@@ -11,7 +11,7 @@ use std::marker::Model;
 ///
 /// It numbers its calls of `write` and `flush` together, from 0. It fails exactly at the calls
 /// that it was told, and at a piece that does not fit into what is left of the room.
-#[derive(Drop)]
+#[derive(Debug, Drop)]
 pub struct MemorySink {
     room: Vec<u8>,
     used: usize,
@@ -79,6 +79,8 @@ impl Sink for MemorySink {
 
     ghost faults = { λ s. s.faults };
 
+    ghost counts_failures_alone = { λ _. true };
+
     fn write(&mut self, bytes: &[u8]) -> Result<(), Failed>
         // The state after the call, and exactly where it fails.
         ensures after { self.new ≡ after_write self.old bytes.now }
@@ -90,6 +92,8 @@ impl Sink for MemorySink {
         ensures failed { OnErr result (Rises self.old.faults self.new.faults) }
         ensures never_falls { self.old.faults ≤ self.new.faults }
         ensures fits { self.new.faults < 2 ^ 64 }
+        ensures ok_count { true ≡ true → OnOk result (self.new.faults ≡ self.old.faults) }
+        ensures counts_alike { true ≡ true }
     {
         let listed = listed_at(&self.fail, self.calls);
         let left = self.room.len() - self.used;
@@ -116,6 +120,8 @@ impl Sink for MemorySink {
         ensures failed { OnErr result (Rises self.old.faults self.new.faults) }
         ensures never_falls { self.old.faults ≤ self.new.faults }
         ensures fits { self.new.faults < 2 ^ 64 }
+        ensures ok_count { true ≡ true → OnOk result (self.new.faults ≡ self.old.faults) }
+        ensures counts_alike { true ≡ true }
     {
         let listed = listed_at(&self.fail, self.calls);
         self.calls = self.calls.saturating_add(1);

@@ -4,9 +4,9 @@ ghost use Rattle.shelf_io.specs.Counting.{count_up};
 
 use crate::waiting::Waiting;
 use crate::{Failed, Sink};
-use std::io;
 use std::io::Printer;
 use std::marker::Model;
+use std::{fmt, io};
 
 /// Standard output, in long pieces: bytes wait until there are many of them or `flush` is called.
 /// What waits when it is dropped is not printed.
@@ -29,6 +29,12 @@ impl<'a, R> Model for OutSink<'a, R> {
     ghost invariant = { λ s. s.faults < 2 ^ 64 };
 }
 
+impl<'a, R> fmt::Debug for OutSink<'a, R> {
+    fn fmt<W: fmt::Write>(&self, f: &mut fmt::Formatter<W>) -> fmt::Result {
+        write!(f, "OutSink {{ faults: {} }}", self.faults)
+    }
+}
+
 impl<'a, R: Print> OutSink<'a, R> {
     /// The standard output of `rt`, to which nothing was written yet.
     pub fn new(rt: &'a R) -> OutSink<'a, R>
@@ -42,13 +48,15 @@ impl<'a, R: Print> OutSink<'a, R> {
 }
 
 impl<'a, R: Print> Sink for OutSink<'a, R> {
-    ghost use Rattle.std.specs.Prelude.{None};
+    ghost use Rattle.std.specs.Prelude.{None, true};
 
     ghost written = { λ _. None };
 
     ghost flushed = { λ _. 0 };
 
     ghost faults = { λ s. s };
+
+    ghost counts_failures_alone = { λ _. true };
 
     fn write(&mut self, bytes: &[u8]) -> Result<(), Failed> {
         let answer = self.out.write(bytes);

@@ -1,13 +1,12 @@
 //! Bytes that are written one after another.
-ghost use Rattle.std.specs.Prelude.{◌≡◌, ℕ, ◌^◌, ◌<◌, ◌≤◌, List, Option, OnOk, OnErr};
+ghost use Rattle.std.specs.Prelude.{◌≡◌, ℕ, ◌^◌, ◌<◌, ◌≤◌, Bool, true, List, Option, OnOk, OnErr};
 ghost use Rattle.cause_defs.specs.Faults.{Rises};
 ghost use Rattle.cause_defs.specs.Written.{Prints, AreFlushed};
 
-/// A write or a flush has failed.
-#[derive(Clone, Copy, Debug, PartialEq, Eq)]
-pub struct Failed;
+use cause_defs::Failed;
 
-/// What takes bytes one after another. No call changes whether it tells them.
+/// What takes bytes one after another, and flushes them. No call changes whether it tells its bytes,
+/// nor whether it counts failures alone.
 pub trait Sink {
     /// The bytes that were written, where they are told.
     ghost written: { Self → Option (List ℕ) };
@@ -18,7 +17,10 @@ pub trait Sink {
     /// How often a call has failed.
     ghost faults: { Self → ℕ };
 
-    /// Writes `bytes` behind what was written before.
+    /// Whether it counts at a failure alone, and never at an Ok.
+    ghost counts_failures_alone: { Self → Bool };
+
+    /// Writes `bytes` after what was written before.
     fn write(&mut self, bytes: &[u8]) -> Result<(), Failed>
         // Ok has added the bytes, and Failed some of them, from their beginning.
         ensures prints { Prints result (written self.old) (written self.new) bytes.now }
@@ -27,7 +29,11 @@ pub trait Sink {
         // Failed comes only where the count rose, which never falls and stays below 2^64.
         ensures failed { OnErr result (Rises (faults self.old) (faults self.new)) }
         ensures never_falls { faults self.old ≤ faults self.new }
-        ensures fits { faults self.new < 2 ^ 64 };
+        ensures fits { faults self.new < 2 ^ 64 }
+
+        // Ok leaves the count of a sink that counts failures alone.
+        ensures ok_count { counts_failures_alone self.old ≡ true → OnOk result (faults self.new ≡ faults self.old) }
+        ensures counts_alike { counts_failures_alone self.new ≡ counts_failures_alone self.old };
 
     /// Flushes all that was written.
     fn flush(&mut self) -> Result<(), Failed>
@@ -39,5 +45,9 @@ pub trait Sink {
         // Failed comes only where the count rose, which never falls and stays below 2^64.
         ensures failed { OnErr result (Rises (faults self.old) (faults self.new)) }
         ensures never_falls { faults self.old ≤ faults self.new }
-        ensures fits { faults self.new < 2 ^ 64 };
+        ensures fits { faults self.new < 2 ^ 64 }
+
+        // Ok leaves the count of a sink that counts failures alone.
+        ensures ok_count { counts_failures_alone self.old ≡ true → OnOk result (faults self.new ≡ faults self.old) }
+        ensures counts_alike { counts_failures_alone self.new ≡ counts_failures_alone self.old };
 }

@@ -27,9 +27,9 @@ pub(crate) struct Waiting<W> {
 impl<W: Write> Waiting<W> {
     ghost use Rattle.std.specs.Prelude.{◌≡◌, ◌+◌, ◌≤◌, [], ◌++◌, true, false, length, is_err, OnOk};
     ghost use Rattle.shelf_io.specs.Known.{PrintsWhereKnown, StayWhereKnown};
-    ghost use Rattle.shelf_io.specs.Waits.{given, waits};
+    ghost use Rattle.shelf_io.specs.Waits.{bytes_given, waits};
 
-    /// A writer behind which nothing waits.
+    /// A writer before which nothing waits.
     pub(crate) fn new(writer: W) -> Waiting<W>
         ensures writer { result.writer ≡ writer }
         ensures waits { waits result ≡ [] }
@@ -47,7 +47,7 @@ impl<W: Write> Waiting<W> {
     /// Takes `bytes`, and hands on what waits where there is no room for them.
     pub(crate) fn write(&mut self, bytes: &[u8]) -> Result<(), Failed>
         // Ok has taken the bytes, and Failed some of them, from their beginning.
-        ensures prints { PrintsWhereKnown result (given W.contents self.old) (given W.contents self.new) bytes.now }
+        ensures prints { PrintsWhereKnown result (bytes_given W.contents self.old) (bytes_given W.contents self.new) bytes.now }
 
         // Each call after one that failed fails too, and hands on nothing.
         ensures broken { self.new.broken ≡ is_err result }
@@ -73,7 +73,7 @@ impl<W: Write> Waiting<W> {
     /// Hands on what waits, and flushes the writer.
     pub(crate) fn flush(&mut self) -> Result<(), Failed>
         // No answer changes what was given, and after Ok nothing waits.
-        ensures bytes { StayWhereKnown (given W.contents self.old) (given W.contents self.new) }
+        ensures bytes { StayWhereKnown (bytes_given W.contents self.old) (bytes_given W.contents self.new) }
         ensures ok { OnOk result (waits self.new ≡ []) }
 
         // Each call after one that failed fails too, and hands on nothing.
@@ -94,7 +94,7 @@ impl<W: Write> Waiting<W> {
     /// Hands on what waits, and keeps what the writer did not take.
     fn hand_on_waiting(&mut self) -> Result<(), Failed>
         requires { self.old.broken ≡ false }
-        ensures bytes { StayWhereKnown (given W.contents self.old) (given W.contents self.new) }
+        ensures bytes { StayWhereKnown (bytes_given W.contents self.old) (bytes_given W.contents self.new) }
         ensures ok { OnOk result ((self.new.end ≡ 0) × (self.new.start ≡ 0)) }
         ensures broken { self.new.broken ≡ is_err result }
     {

@@ -66,3 +66,42 @@ fn hands_on_nothing_after_a_fault(rt: HostRuntime) {
     assert_eq!(rt; out.flush(), Err(Failed));
     assert_eq!(rt; out.writer.held.as_slice(), b"012345".as_slice());
 }
+
+/// Takes all bytes, and flushes only while `flushes` are left.
+#[derive(Drop)]
+struct Unflushed {
+    held: Vec<u8>,
+    flushes: u32,
+}
+
+impl Write for Unflushed {
+    fn write(&mut self, bytes: &[u8]) -> io::Result<usize> {
+        self.held.extend_from_slice(bytes)?;
+        Ok(bytes.len())
+    }
+
+    fn flush(&mut self) -> io::Result<()> {
+        if self.flushes == 0 {
+            return Err(io::Error::from(ErrorKind::StorageFull));
+        }
+        self.flushes -= 1;
+        Ok(())
+    }
+}
+
+#[test]
+fn a_flush_fails_below_the_buffer(rt: HostRuntime) {
+    let mut out = Waiting::new(Unflushed {
+        held: Vec::new(rt.alloc()),
+        flushes: 1,
+    });
+    assert_eq!(rt; out.write(b"12"), Ok(()));
+    assert_eq!(rt; out.flush(), Ok(()));
+    assert_eq!(rt; out.write(b"345"), Ok(()));
+    assert_eq!(rt; out.flush(), Err(Failed), "the writer did not flush");
+    out.writer.flushes = 1;
+    assert_eq!(rt; out.flush(), Err(Failed), "and is not asked again");
+    assert_eq!(rt; out.write(b"6"), Err(Failed));
+    assert_eq!(rt; out.writer.flushes, 1);
+    assert_eq!(rt; out.writer.held.as_slice(), b"12345".as_slice());
+}

@@ -1,10 +1,14 @@
-ghost use Rattle.std.specs.Prelude.{◌≡◌, ◌++◌, [], flat_map, OnOk, OnErr};
+//! Tests of the shelves and sinks of `shelf_io`, and callers over any of them.
+#![tactic(auto)]
+
+ghost use Rattle.std.specs.Prelude.{◌≡◌, ◌++◌, [], flat_map, OnOk};
 ghost use Rattle.cause_defs.specs.Told.{IsWhereTold};
 ghost use Rattle.cause_defs.specs.Faults.{Rises};
-ghost use Rattle.cause_defs.specs.Written.{Prints};
+ghost use Rattle.cause_defs.specs.Reports.{Reports};
 ghost use Rattle.shelf_io.specs.Take.{OnFailed};
 
-use crate::{Failed, FolderShelf, MemoryShelf, MemorySink, OutSink, Shelf, ShelfFault, Sink};
+use cause_defs::ReportFault;
+use shelf_io::{Failed, FolderShelf, MemoryShelf, MemorySink, OutSink, Shelf, ShelfFault, Sink};
 use std::alloc::{AllocError, Global};
 use std::fs;
 use std::test::Fail;
@@ -97,23 +101,27 @@ fn out_sink_prints(rt: HostRuntime) {
 }
 
 /// A caller over any sink.
-#[tactic(auto, using(crate::proofs::Printing::printing))]
-fn write_both<W: Sink>(out: &mut W, first: &[u8], second: &[u8]) -> Result<(), Failed>
-    ensures prints { Prints result (W.written out.old) (W.written out.new) (first.now ++ second.now) }
-    ensures failed { OnErr result (Rises (W.faults out.old) (W.faults out.new)) }
+fn write_piece<W: Sink>(out: &mut W, piece: &[u8]) -> Result<(), ReportFault>
+    ensures { Reports W.written W.flushed W.faults W.counts_failures_alone result out.old out.new piece.now }
 {
-    out.write(first)?;
-    out.write(second)
+    out.write(piece)?;
+    Ok(())
+}
+
+/// A caller over any sink, with two writes.
+fn write_both<W: Sink>(out: &mut W, first: &[u8], second: &[u8]) -> Result<(), ReportFault>
+    ensures { Reports W.written W.flushed W.faults W.counts_failures_alone result out.old out.new (first.now ++ second.now) }
+{
+    write_piece(out, first)?;
+    write_piece(out, second)
 }
 
 /// A caller over any sink, with a loop.
-#[tactic(auto, using(crate::proofs::Printing::printing))]
-fn write_lines<W: Sink>(out: &mut W, lines: &[Vec<u8>]) -> Result<(), Failed>
-    ensures prints { Prints result (W.written out.old) (W.written out.new) (flat_map (λ line. line.items) lines.now) }
-    ensures failed { OnErr result (Rises (W.faults out.old) (W.faults out.new)) }
+fn write_lines<W: Sink>(out: &mut W, lines: &[Vec<u8>]) -> Result<(), ReportFault>
+    ensures { Reports W.written W.flushed W.faults W.counts_failures_alone result out.old out.new (flat_map (λ line. line.items) lines.now) }
 {
     for line in lines {
-        out.write(line)?;
+        write_piece(out, line)?;
     }
     Ok(())
 }
@@ -137,7 +145,7 @@ fn serves_callers_over_any(rt: HostRuntime) -> Result<(), Fail> {
     assert_eq!(rt; write_both(&mut sink, b"67", &into), Ok(()));
     assert_eq!(rt;
         write_lines(&mut sink, &vec![in rt.alloc(); into]?),
-        Err(Failed)
+        Err(ReportFault::Write)
     );
     assert_eq!(rt; sink.bytes(), b"67123451".as_slice());
     Ok(())
