@@ -1,4 +1,3 @@
-pub mod Fractions
 pub mod Reporting
 pub mod Plain
 pub mod Forms

@@ -1,14 +1,13 @@
 -- What the top call has to answer: a status with a text, and the cause of each.
 use Rattle.std.specs.Prelude.{◌≡◌, ℕ, ◌+◌, ◌≤◌, nat_lt, if◌then◌else◌, List, length, Option, Some, None}
 use Rattle.cause_defs.specs.Told.{Told, untold, absent, told, IsWhereTold, IsFrontWhereTold}
-use Rattle.cause_defs.specs.Faults.{Rises}
 use Rattle.cause_defs.specs.Written.{appended, AppendsPart}
 use Rattle.input_defs.specs.Content.{Content}
 use Rattle.triangle_defs.specs.Triangles.{triangles, triangle_mesh}
 use Rattle.text_defs.specs.Text.{plain_text}
 use Rattle.text_defs.specs.Refusals.{most_bytes, words_refused, read_refused, too_long_refused, not_yet_refused}
-use Rattle.plex_job.specs.declared.status.Status.{Status}
-use Rattle.plex_job.specs.declared.status.Status.TheVariants.{Done, Words, Mesh, ReadFault, WriteFault, NoMemory, TooLong}
+use Rattle.input_defs.specs.declared.Status.{Status}
+use Rattle.input_defs.specs.declared.Status.TheVariants.{Done, Words, Plan, Mesh, ReadFault, WriteFault, NoMemory, TooLong}
 use Rattle.plex_job.specs.Words.{accepted_name}
 
 -- ---- causes; `file` tells the bytes under a name, and `failed` that taking the file of a name has failed
@@ -55,15 +54,11 @@ pub record ShowsMesh (words : List (List ℕ)) (file : List ℕ → Told (List �
   pub form : triangles bytes ≡ Some content
   pub lines : text ≡ plain_text (triangle_mesh content)
 
--- taking the file of a name has failed: the shelf's count rose, and this is the name that failed last, where told
-pub record HasFailed (faults_before faults_after : ℕ) (last_failed : Told (List ℕ)) (name : List ℕ) : Type 0 where
-  pub rose : Rises faults_before faults_after
-  pub last : IsWhereTold last_failed name
-
--- the text of this status is this one, and has its cause
+-- the text of this status is this one, and has its cause: there are no plans here
 abbrev pub IsAnswer : List (List ℕ) → (List ℕ → Told (List ℕ)) → (List ℕ → Type 0) → Status → List ℕ → Type 0
 IsAnswer words file failed Done text = ShowsMesh words file text
 IsAnswer words file failed Words text = RefusesWords words text
+IsAnswer words file failed Plan text = ⊥
 IsAnswer words file failed Mesh text = RefusesForm words file text
 IsAnswer words file failed ReadFault text = RefusesRead words failed text
 IsAnswer words file failed WriteFault text = ⊥
@@ -96,9 +91,21 @@ OnAnswer WriteFault P = Unit {0}
 OnAnswer NoMemory P = Unit {0}
 OnAnswer Done P = P
 OnAnswer Words P = P
+OnAnswer Plan P = P
 OnAnswer Mesh P = P
 OnAnswer ReadFault P = P
 OnAnswer TooLong P = P
+
+-- the fact holds where the call has not answered
+abbrev pub UnlessAnswer : Status → Type 0 → Type 0
+UnlessAnswer WriteFault P = P
+UnlessAnswer NoMemory P = P
+UnlessAnswer Done P = Unit {0}
+UnlessAnswer Words P = Unit {0}
+UnlessAnswer Plan P = Unit {0}
+UnlessAnswer Mesh P = Unit {0}
+UnlessAnswer ReadFault P = Unit {0}
+UnlessAnswer TooLong P = Unit {0}
 
 -- the fact holds where the sink has failed
 abbrev pub OnWriteFault : Status → Type 0 → Type 0
@@ -106,9 +113,21 @@ OnWriteFault WriteFault P = P
 OnWriteFault NoMemory P = Unit {0}
 OnWriteFault Done P = Unit {0}
 OnWriteFault Words P = Unit {0}
+OnWriteFault Plan P = Unit {0}
 OnWriteFault Mesh P = Unit {0}
 OnWriteFault ReadFault P = Unit {0}
 OnWriteFault TooLong P = Unit {0}
+
+-- the fact holds unless the sink has failed
+abbrev pub UnlessWriteFault : Status → Type 0 → Type 0
+UnlessWriteFault WriteFault P = Unit {0}
+UnlessWriteFault NoMemory P = P
+UnlessWriteFault Done P = P
+UnlessWriteFault Words P = P
+UnlessWriteFault Plan P = P
+UnlessWriteFault Mesh P = P
+UnlessWriteFault ReadFault P = P
+UnlessWriteFault TooLong P = P
 
 -- the fact holds where memory ran out
 abbrev pub OnNoMemory : Status → Type 0 → Type 0
@@ -116,9 +135,21 @@ OnNoMemory NoMemory P = P
 OnNoMemory WriteFault P = Unit {0}
 OnNoMemory Done P = Unit {0}
 OnNoMemory Words P = Unit {0}
+OnNoMemory Plan P = Unit {0}
 OnNoMemory Mesh P = Unit {0}
 OnNoMemory ReadFault P = Unit {0}
 OnNoMemory TooLong P = Unit {0}
+
+-- the fact holds unless the shelf, the sink or memory has failed
+abbrev pub UnlessFault : Status → Type 0 → Type 0
+UnlessFault ReadFault P = Unit {0}
+UnlessFault WriteFault P = Unit {0}
+UnlessFault NoMemory P = Unit {0}
+UnlessFault Done P = P
+UnlessFault Words P = P
+UnlessFault Plan P = P
+UnlessFault Mesh P = P
+UnlessFault TooLong P = P
 
 -- ---- parts of answers
 
@@ -140,6 +171,7 @@ abbrev pub IsEndOf : Status → Status → Type 0
 IsEndOf WriteFault status = Unit {0}
 IsEndOf Done status = status ≡ Done
 IsEndOf Words status = status ≡ Words
+IsEndOf Plan status = status ≡ Plan
 IsEndOf Mesh status = status ≡ Mesh
 IsEndOf ReadFault status = status ≡ ReadFault
 IsEndOf NoMemory status = status ≡ NoMemory

@@ -2,8 +2,8 @@
 use Rattle.std.specs.Prelude.{ℕ, List}
 use Rattle.plex_job.specs.declared.outcome.Outcome.{Outcome}
 use Rattle.plex_job.specs.declared.outcome.Outcome.TheVariants.{Refused, Drawn}
-use Rattle.plex_job.specs.declared.status.Status.{Status}
-use Rattle.plex_job.specs.declared.status.Status.TheVariants.{Done}
+use Rattle.input_defs.specs.declared.Status.{Status}
+use Rattle.input_defs.specs.declared.Status.TheVariants.{Done}
 use Rattle.plex_job.specs.Drawing.{drawn_text}
 use Rattle.plex_job.specs.Refusing.{refusal_line, refusal_status}
 

@@ -3,8 +3,8 @@ use Rattle.std.specs.Prelude.{ℕ, List}
 use Rattle.text_defs.specs.Refusals.{words_refused, read_refused, too_long_refused, not_yet_refused}
 use Rattle.plex_job.specs.declared.refusal.Refusal.{Refusal}
 use Rattle.plex_job.specs.declared.refusal.Refusal.TheVariants as refusals
-use Rattle.plex_job.specs.declared.status.Status.{Status}
-use Rattle.plex_job.specs.declared.status.Status.TheVariants.{Words, Mesh, ReadFault, TooLong}
+use Rattle.input_defs.specs.declared.Status.{Status}
+use Rattle.input_defs.specs.declared.Status.TheVariants.{Words, Mesh, ReadFault, TooLong}
 
 abbrev pub refusal_line : Refusal → List ℕ
 refusal_line refusals.Words = words_refused

@@ -1,7 +1,7 @@
 //! How many points a diagram has of each dimension.
 
 ghost use Rattle.std.specs.Prelude.{◌≡◌, ◌-◌};
-ghost use Rattle.plex_base.specs.Dim.{number_of};
+ghost use Rattle.plex_base.specs.Dim.{dim_number};
 ghost use Rattle.plex_chart.specs.Chart.{stratum_range};
 
 use plex_base::Dim;
@@ -17,7 +17,7 @@ pub(crate) struct Counts {
 }
 
 fn count(plex: &Plex, d: Dim) -> u32
-    ensures { result ≡ (stratum_range plex.now (number_of d)).1 - (stratum_range plex.now (number_of d)).0 }
+    ensures { result ≡ (stratum_range plex.now (dim_number d)).1 - (stratum_range plex.now (dim_number d)).0 }
 {
     let stratum = plex.stratum(d);
     stratum.end.saturating_sub(stratum.start)

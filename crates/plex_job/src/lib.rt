@@ -6,17 +6,12 @@
 #![tactic(auto)]
 
 mod counts;
-mod fault;
 mod line;
 mod outcome;
 mod point;
 mod refusal;
 mod report;
-mod status;
 mod top;
 
-pub use status::Status;
+pub use input_defs::Status;
 pub use top::job;
-
-#[cfg(test)]
-mod tests;

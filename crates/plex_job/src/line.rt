@@ -1,73 +1,60 @@
-//! Parts of the lines of a text, each appended to a line that is being made.
+//! Parts of the lines of a text, each appended to the bytes of a line that is being made.
 
-ghost use Rattle.std.specs.Prelude.{◌≡◌, ◌++◌, ◌+◌, ◌^◌, ◌*◌, ◌<◌, string_bytes, OnOk, pos, ℤ, negsuc};
+ghost use Rattle.std.specs.Prelude.{◌≡◌, ◌++◌, OnOk, decimal, flat_map};
 ghost use Rattle.text_defs.specs.Text.{entry_text, at_text};
-ghost use Rattle.line_defs.specs.Numbers.{fixed_text, unsigned_fixed_text, fraction_digits};
 
+use itoa::Buffer;
 use mesh_defs::ConeEntry;
-use std::alloc::AllocError;
+use plex_base::NoMemory;
+use scan::print_fixed;
 
-/// Fixed-point values are whole multiples of the 10^10th part of 1.
-const UNIT: u64 = 10_000_000_000;
+/// A number as its decimal digits.
+pub(crate) fn append_number(line: &mut Vec<u8>, number: u64) -> Result<(), NoMemory>
+    ensures { OnOk result (line.new.items ≡ line.old.items ++ decimal number) }
+{
+    line.extend_from_slice(Buffer::new().format(number).as_bytes())?;
+    Ok(())
+}
+
+/// A text, and a number after it.
+pub(crate) fn append_field(line: &mut Vec<u8>, text: &[u8], number: u64) -> Result<(), NoMemory>
+    ensures { OnOk result (line.new.items ≡ line.old.items ++ (text.now ++ decimal number)) }
+{
+    line.extend_from_slice(text)?;
+    append_number(line, number)
+}
 
 /// An entry of a cone, as ` number:orientation`.
-#[tactic(auto, unfolding(text_defs::specs::Text::entry_text))]
-pub fn push_entry(line: &mut String, entry: ConeEntry) -> Result<(), AllocError>
-    ensures { OnOk result (string_bytes line.new ≡ string_bytes line.old ++ entry_text entry) }
+#[tactic(auto, unfolding(text_defs::specs::Text::entry_text), using(std::proofs::Common::append_assoc))]
+fn append_entry(line: &mut Vec<u8>, entry: ConeEntry) -> Result<(), NoMemory>
+    ensures { OnOk result (line.new.items ≡ line.old.items ++ entry_text entry) }
 {
-    write!(line, " {}:{}", entry.point, entry.o)
-}
-
-/// The digits behind the point of `rest` times 10^-10, without zeros at the end.
-fn push_fraction(line: &mut String, rest: u64) -> Result<(), AllocError>
-    requires { rest < 10 ^ 10 }
-    ensures { OnOk result (string_bytes line.new ≡ string_bytes line.old ++ fraction_digits 10 rest) }
-{
-    let mut rest = rest;
-    for place in (0..10).rev() {
-        if rest == 0 {
-            return Ok(());
-        }
-        let unit = 10u64.pow(place);
-        write!(line, "{}", rest / unit)?;
-        rest %= unit;
-    }
+    line.push(b' ')?;
+    append_number(line, u64::from(entry.point))?;
+    line.push(b':')?;
+    line.extend_from_slice(Buffer::new().format(entry.o).as_bytes())?;
     Ok(())
 }
 
-#[tactic(auto, unfolding(line_defs::specs::Numbers::unsigned_fixed_text))]
-fn push_unsigned(line: &mut String, value: u64) -> Result<(), AllocError>
-    ensures { OnOk result (string_bytes line.new ≡ string_bytes line.old ++ unsigned_fixed_text value) }
+/// A cone, entry by entry.
+pub(crate) fn append_cone(line: &mut Vec<u8>, cone: &[ConeEntry]) -> Result<(), NoMemory>
+    ensures { OnOk result (line.new.items ≡ line.old.items ++ flat_map entry_text cone.now) }
 {
-    write!(line, "{}", value / UNIT)?;
-    let rest = value % UNIT;
-    if rest != 0 {
-        line.push_str(".")?;
-        push_fraction(line, rest)?;
+    for entry in cone {
+        append_entry(line, *entry)?;
     }
     Ok(())
-}
-
-/// A fixed-point value as its shortest decimal text.
-#[tactic(auto, unfolding(line_defs::specs::Numbers::fixed_text))]
-pub fn push_fixed(line: &mut String, value: i64) -> Result<(), AllocError>
-    ensures { OnOk result (string_bytes line.new ≡ string_bytes line.old ++ fixed_text value) }
-{
-    if value < 0 {
-        line.push_str("-")?;
-    }
-    push_unsigned(line, value.unsigned_abs())
 }
 
 /// The coordinates of a vertex, as ` @ x y z`.
 #[tactic(auto, unfolding(text_defs::specs::Text::at_text))]
-pub fn push_at(line: &mut String, at: &[i64; 3]) -> Result<(), AllocError>
-    ensures { OnOk result (string_bytes line.new ≡ string_bytes line.old ++ at_text at.now) }
+pub(crate) fn append_at(line: &mut Vec<u8>, at: &[i64; 3]) -> Result<(), NoMemory>
+    ensures { OnOk result (line.new.items ≡ line.old.items ++ at_text at.now) }
 {
-    line.push_str(" @")?;
+    line.extend_from_slice(b" @")?;
     for x in at {
-        line.push_str(" ")?;
-        push_fixed(line, *x)?;
+        line.push(b' ')?;
+        print_fixed(i128::from(*x), line)?;
     }
     Ok(())
 }

@@ -1,13 +1,13 @@
 //! What the top call has to say.
 
 ghost use Rattle.std.specs.Prelude.{◌≡◌};
-ghost use Rattle.plex_job.specs.Report.{Reports};
+ghost use Rattle.cause_defs.specs.Reports.{Reports};
 ghost use Rattle.plex_job.specs.Outcome.{outcome_status, outcome_text};
 
-use crate::fault::ReportFault;
 use crate::refusal::{Refusal, write_refusal};
 use crate::report::write_mesh;
-use crate::status::Status;
+use cause_defs::ReportFault;
+use input_defs::Status;
 use plex_serial::SerialMesh;
 use shelf_io::Sink;
 use std::alloc::Global;
@@ -35,7 +35,7 @@ pub(crate) fn write_outcome<W: Sink>(
     outcome: &Outcome<'_>,
     out: &mut W,
 ) -> Result<(), ReportFault>
-    ensures { Reports result (W.written out.old) (W.written out.new) (W.faults out.old) (W.faults out.new) (outcome_text outcome.now) }
+    ensures { Reports W.written W.flushed W.faults W.counts_failures_alone result out.old out.new (outcome_text outcome.now) }
 {
     match outcome {
         Outcome::Refused(refusal) => write_refusal(alloc, refusal, out),

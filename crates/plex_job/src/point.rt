@@ -1,76 +1,71 @@
 //! The line of a point.
 
-ghost use Rattle.std.specs.Prelude.{◌≡◌, ◌++◌, ◌<◌, [], length, slice_index_or, string_bytes, OnOk, flat_map};
+ghost use Rattle.std.specs.Prelude.{◌≡◌, ◌++◌, ◌<◌, [], length, slice_index_or, OnOk};
 ghost use Rattle.mesh_defs.specs.Tables.{dim_of};
-ghost use Rattle.text_defs.specs.Text.{tag, entry_text, at_text, tail_text, point_line};
+ghost use Rattle.text_defs.specs.Text.{tag, tail_text, point_line};
 
-use crate::line::{push_at, push_entry};
+use crate::line::{append_at, append_cone, append_field, append_number};
 use mesh_defs::{ConeEntry, Poly};
+use plex_base::{NoMemory, PointKey};
 use poly_tables::dim;
-use std::alloc::AllocError;
 
 /// The name of a point in a mesh of dimension `mesh_dim`: a letter and a number.
 #[tactic(auto, unfolding(text_defs::specs::Text::tag))]
-fn push_tag(line: &mut String, mesh_dim: u32, poly: Poly, key: u64) -> Result<(), AllocError>
-    ensures { OnOk result (string_bytes line.new ≡ string_bytes line.old ++ tag mesh_dim poly key) }
+fn append_tag(line: &mut Vec<u8>, mesh_dim: u32, poly: Poly, key: PointKey) -> Result<(), NoMemory>
+    ensures { OnOk result (line.new.items ≡ line.old.items ++ tag mesh_dim poly key.0) }
 {
     let dim = dim(poly);
     if dim == mesh_dim {
-        write!(line, "c{}", key / 64)
-    } else if dim == 0 {
-        write!(line, "v{key}")
-    } else if dim == 2 {
-        write!(line, "f{key}")
-    } else {
-        write!(line, "e{key}")
+        line.push(b'c')?;
+        return append_number(line, key.cell());
     }
+    let letter = match dim {
+        0 => b'v',
+        2 => b'f',
+        _ => b'e',
+    };
+    line.push(letter)?;
+    append_number(line, key.0)
 }
 
-fn push_cone(line: &mut String, cone: &[ConeEntry]) -> Result<(), AllocError>
-    ensures { OnOk result (string_bytes line.new ≡ string_bytes line.old ++ flat_map entry_text cone.now) }
-{
-    for entry in cone {
-        push_entry(line, *entry)?;
-    }
-    Ok(())
-}
-
-/// What stands behind the name: the cone and, of a vertex, its coordinates. These stand in `at`
+/// What stands after the name: the cone and, of a vertex, its coordinates. These stand in `at`
 /// under the keys of vertices.
 #[tactic(auto, unfolding(text_defs::specs::Text::tail_text))]
-fn push_tail(
-    line: &mut String,
+fn append_tail(
+    line: &mut Vec<u8>,
     poly: Poly,
-    key: u64,
+    key: PointKey,
     cone: &[ConeEntry],
     at: &[[i64; 3]],
-) -> Result<(), AllocError>
-    requires { dim_of poly ≡ 0 → key < length at.now }
-    ensures { OnOk result (string_bytes line.new ≡ string_bytes line.old ++ tail_text poly cone.now (slice_index_or at.now key [])) }
+) -> Result<(), NoMemory>
+    requires { dim_of poly ≡ 0 → key.0 < length at.now }
+    ensures { OnOk result (line.new.items ≡ line.old.items ++ tail_text poly cone.now (slice_index_or at.now key.0 [])) }
 {
-    push_cone(line, cone)?;
+    append_cone(line, cone)?;
     if dim(poly) == 0 {
-        push_at(line, &at[key as usize])?;
+        append_at(line, &at[key.0 as usize])?;
     }
     Ok(())
 }
 
-/// A point under its number, as `P number name` and what stands behind the name.
-#[tactic(auto, unfolding(text_defs::specs::Text::point_line))]
-pub fn push_point(
-    line: &mut String,
+/// A point under its number, as `P number name` and what stands after the name.
+#[tactic(auto, unfolding(text_defs::specs::Text::point_line), using(std::proofs::Common::append_assoc))]
+pub(crate) fn append_point(
+    line: &mut Vec<u8>,
     mesh_dim: u32,
     number: u32,
     poly: Poly,
-    key: u64,
+    key: PointKey,
     cone: &[ConeEntry],
     at: &[[i64; 3]],
-) -> Result<(), AllocError>
-    requires { dim_of poly ≡ 0 → key < length at.now }
-    ensures { OnOk result (string_bytes line.new ≡ string_bytes line.old ++ point_line mesh_dim number poly key cone.now (slice_index_or at.now key [])) }
+) -> Result<(), NoMemory>
+    requires { dim_of poly ≡ 0 → key.0 < length at.now }
+    ensures { OnOk result (line.new.items ≡ line.old.items ++ point_line mesh_dim number poly key.0 cone.now (slice_index_or at.now key.0 [])) }
 {
-    write!(line, "P {number} ")?;
-    push_tag(line, mesh_dim, poly, key)?;
-    push_tail(line, poly, key, cone, at)?;
-    line.push_str("\n")
+    append_field(line, b"P ", u64::from(number))?;
+    line.push(b' ')?;
+    append_tag(line, mesh_dim, poly, key)?;
+    append_tail(line, poly, key, cone, at)?;
+    line.push(b'\n')?;
+    Ok(())
 }

@@ -1,18 +1,19 @@
 //! What is refused, and the line that says so.
 
-ghost use Rattle.std.specs.Prelude.{◌≡◌, IfOk, string_bytes};
+ghost use Rattle.std.specs.Prelude.{◌≡◌, ◌++◌, IfOk, codes};
+ghost use Rattle.cause_defs.specs.Reports.{Reports};
 ghost use Rattle.text_defs.specs.Refusals.{words_refused, read_refused, too_long_refused, not_yet_refused};
-ghost use Rattle.plex_job.specs.Report.{Reports};
 ghost use Rattle.plex_job.specs.Refusing.{refusal_line, refusal_status};
 
-use crate::fault::ReportFault;
 use crate::report::write_line;
-use crate::status::Status;
+use cause_defs::ReportFault;
+use input_defs::Status;
+use plex_base::NoMemory;
 use shelf_io::Sink;
-use std::alloc::{AllocError, Global};
+use std::alloc::Global;
 
 /// Why nothing is drawn.
-#[derive(Clone, Copy)]
+#[derive(Clone, Copy, Debug)]
 pub(crate) enum Refusal<'a> {
     /// The words are not accepted.
     Words,
@@ -36,17 +37,28 @@ impl Refusal<'_> {
         }
     }
 
-    #[tactic(auto, unfolding(text_defs::specs::Refusals::words_refused, text_defs::specs::Refusals::read_refused, text_defs::specs::Refusals::too_long_refused, text_defs::specs::Refusals::not_yet_refused))]
-    fn line(&self, alloc: Global) -> Result<String, AllocError>
-        ensures { IfOk result (λ line. string_bytes line ≡ refusal_line self.now) }
+    #[tactic(auto, unfolding(text_defs::specs::Refusals::words_refused, text_defs::specs::Refusals::read_refused, text_defs::specs::Refusals::too_long_refused, text_defs::specs::Refusals::not_yet_refused), using(std::proofs::Common::append_assoc))]
+    fn line(&self, alloc: Global) -> Result<Vec<u8>, NoMemory>
+        ensures { IfOk result (λ line. line.items ≡ refusal_line self.now) }
     {
         match self {
-            Refusal::Words => String::from_str(alloc, "refused: words\n"),
-            Refusal::Read(name) => format!(in alloc; "refused: read {name}\n"),
-            Refusal::TooLong(name) => format!(in alloc; "refused: too long {name} 268435457\n"),
-            Refusal::NotYet => String::from_str(alloc, "refused: mesh not yet\n"),
+            Refusal::Words => named_line(alloc, b"refused: words", "", b""),
+            Refusal::Read(name) => named_line(alloc, b"refused: read ", name, b""),
+            Refusal::TooLong(name) => named_line(alloc, b"refused: too long ", name, b" 268435457"),
+            Refusal::NotYet => named_line(alloc, b"refused: mesh not yet", "", b""),
         }
     }
+}
+
+/// The line of a text, a name and a text.
+fn named_line(alloc: Global, before: &[u8], name: &str, after: &[u8]) -> Result<Vec<u8>, NoMemory>
+    ensures { IfOk result (λ line. line.items ≡ before.now ++ name.now ++ after.now ++ codes "\n") }
+{
+    let mut line = Vec::from_slice(alloc, before)?;
+    line.extend_from_slice(name.as_bytes())?;
+    line.extend_from_slice(after)?;
+    line.push(b'\n')?;
+    Ok(line)
 }
 
 /// Writes the line of a refusal.
@@ -55,8 +67,8 @@ pub(crate) fn write_refusal<W: Sink>(
     refusal: &Refusal<'_>,
     out: &mut W,
 ) -> Result<(), ReportFault>
-    ensures { Reports result (W.written out.old) (W.written out.new) (W.faults out.old) (W.faults out.new) (refusal_line refusal.now) }
+    ensures { Reports W.written W.flushed W.faults W.counts_failures_alone result out.old out.new (refusal_line refusal.now) }
 {
     let line = refusal.line(alloc)?;
-    write_line(out, line.as_str())
+    write_line(out, &line)
 }

@@ -1,37 +1,38 @@
 //! From words to a text.
 
-ghost use Rattle.std.specs.Prelude.{◌≡◌, ◌≤◌, ◌⊎◌, ℕ, List, length, map, Some, None, MatchOption, IfOk, string_bytes};
+ghost use Rattle.std.specs.Prelude.{◌≡◌, ◌≤◌, ◌⊎◌, ℕ, true, List, length, map, Some, None, MatchOption, IfOk, string_bytes};
 ghost use Rattle.cause_defs.specs.Told.{told};
-ghost use Rattle.cause_defs.specs.Faults.{Rises};
+ghost use Rattle.cause_defs.specs.Faults.{Rises, FailsTake};
 ghost use Rattle.cause_defs.specs.Written.{appended, AreFlushed};
 ghost use Rattle.triangle_defs.specs.Triangles.{triangles};
-ghost use Rattle.plex_job.specs.declared.status.Status.{Status as Ending};
-ghost use Rattle.plex_job.specs.Words.{accepted_name, is_name};
-ghost use Rattle.plex_job.specs.Answer.{IsAnswer, HasFailed, AddsAnswer, AddsPart, verdict, verdict_on_content, OnAnswer, OnWriteFault, OnNoMemory, IsEndOf};
+ghost use Rattle.input_defs.specs.declared.Status.{Status as Ending};
+ghost use Rattle.input_defs.specs.Words.{is_file_name};
+ghost use Rattle.plex_job.specs.Words.{accepted_name};
+ghost use Rattle.plex_job.specs.Answer.{IsAnswer, AddsAnswer, AddsPart, verdict, verdict_on_content, OnAnswer, UnlessAnswer, OnWriteFault, UnlessWriteFault, OnNoMemory, UnlessFault, IsEndOf};
 ghost use Rattle.plex_job.specs.Outcome.{outcome_status, outcome_text};
 
-use crate::fault::ReportFault;
 use crate::outcome::{Outcome, write_outcome};
 use crate::refusal::Refusal;
-use crate::status::Status;
-use triangle_reader::{MshFault, read_msh};
+use cause_defs::ReportFault;
+use input_defs::Status;
 use plex_base::{MAX_FILE_BYTES, NoMemory};
 use plex_serial::interpolate;
 use shelf_io::{Failed, Shelf, ShelfFault, Sink};
 use std::alloc::Global;
+use triangle_reader::{MshFault, read_msh};
 
 /// The name of the mesh file, where the words are accepted.
 fn mesh_name(words: &[String]) -> Option<&str>
     ensures { MatchOption result (accepted_name (map string_bytes words.now) ≡ None) (λ name. accepted_name (map string_bytes words.now) ≡ Some name.now) }
 {
     match words {
-        [word] if is_name(word.as_bytes()) => Some(word.as_str()),
+        [word] if is_file_name(word.as_bytes()) => Some(word.as_str()),
         _ => None,
     }
 }
 
-fn is_name(word: &[u8]) -> bool
-    ensures { result ≡ is_name word.now }
+fn is_file_name(word: &[u8]) -> bool
+    ensures { result ≡ is_file_name word.now }
 {
     match word {
         [] => false,
@@ -57,8 +58,10 @@ fn answer<'a, S: Shelf>(
     words: &'a [String],
     shelf: &mut S,
 ) -> Result<Outcome<'a>, NoMemory>
-    ensures { IfOk result (λ outcome. IsAnswer (map string_bytes words.now) (S.file shelf.old)
-        (HasFailed (S.faults shelf.old) (S.faults shelf.new) (S.last_failed shelf.new)) (outcome_status outcome) (outcome_text outcome)) }
+    ensures answer { IfOk result (λ outcome. IsAnswer (map string_bytes words.now) (S.file shelf.old)
+        (FailsTake S.faults S.last_failed shelf.old shelf.new) (outcome_status outcome) (outcome_text outcome)) }
+    ensures refused_words { accepted_name (map string_bytes words.now) ≡ None → shelf.new ≡ shelf.old }
+    ensures count { IfOk result (λ outcome. UnlessFault (outcome_status outcome) (S.faults shelf.new ≡ S.faults shelf.old)) }
 {
     let Some(name) = mesh_name(words) else {
         return Ok(Outcome::Refused(Refusal::Words));
@@ -83,17 +86,27 @@ fn answer<'a, S: Shelf>(
 pub fn job<S: Shelf, W: Sink>(alloc: Global, words: &[String], shelf: &mut S, out: &mut W) -> Status
     // A whole answer is the text of its status and nothing else, for its cause, and is flushed.
     ensures answer { OnAnswer result (AddsAnswer (map string_bytes words.now) (S.file shelf.old)
-        (HasFailed (S.faults shelf.old) (S.faults shelf.new) (S.last_failed shelf.new)) result (W.written out.old) (W.written out.new)) }
+        (FailsTake S.faults S.last_failed shelf.old shelf.new) result (W.written out.old) (W.written out.new)) }
     ensures flushed { OnAnswer result (AreFlushed (W.written out.new) (W.flushed out.new)) }
 
     // Writing fails only where the sink's count rose, and has added a part of an answer.
     ensures write_fault { OnWriteFault result (Rises (W.faults out.old) (W.faults out.new)) }
     ensures write_part { OnWriteFault result (AddsPart (map string_bytes words.now) (S.file shelf.old)
-        (HasFailed (S.faults shelf.old) (S.faults shelf.new) (S.last_failed shelf.new)) (W.written out.old) (W.written out.new)) }
+        (FailsTake S.faults S.last_failed shelf.old shelf.new) (W.written out.old) (W.written out.new)) }
 
     // Where memory ran out, nothing or a part of an answer is added.
     ensures no_memory { OnNoMemory result ((W.written out.new ≡ W.written out.old) ⊎ AddsPart (map string_bytes words.now) (S.file shelf.old)
-        (HasFailed (S.faults shelf.old) (S.faults shelf.new) (S.last_failed shelf.new)) (W.written out.old) (W.written out.new)) }
+        (FailsTake S.faults S.last_failed shelf.old shelf.new) (W.written out.old) (W.written out.new)) }
+
+    // Refused words leave the shelf as it is, and its count stays with each answer but ReadFault.
+    ensures refused_words { accepted_name (map string_bytes words.now) ≡ None → shelf.new ≡ shelf.old }
+    ensures shelf_count { UnlessFault result (S.faults shelf.new ≡ S.faults shelf.old) }
+
+    // The count of a sink that counts failures alone stays with each status but WriteFault.
+    ensures sink_count { W.counts_failures_alone out.old ≡ true → UnlessWriteFault result (W.faults out.new ≡ W.faults out.old) }
+
+    // After a fault of the sink or of memory nothing more is flushed.
+    ensures fault_flush { UnlessAnswer result (W.flushed out.new ≡ W.flushed out.old) }
 
     // Where neither the shelf nor the sink has failed, the status is the one that words and files give, or NoMemory.
     ensures complete { (given : Ending × List ℕ) → verdict (map string_bytes words.now) (S.file shelf.old) ≡ told given
@@ -117,6 +130,8 @@ fn finish<W: Sink>(outcome: &Outcome<'_>, out: &mut W) -> Status
     ensures flushed { OnAnswer result (AreFlushed (W.written out.new) (W.flushed out.new)) }
     ensures write_fault { OnWriteFault result (Rises (W.faults out.old) (W.faults out.new)) }
     ensures never_falls { W.faults out.old ≤ W.faults out.new }
+    ensures sink_count { W.counts_failures_alone out.old ≡ true → UnlessWriteFault result (W.faults out.new ≡ W.faults out.old) }
+    ensures fault_flush { UnlessAnswer result (W.flushed out.new ≡ W.flushed out.old) }
 {
     match out.flush() {
         Ok(()) => outcome.status(),

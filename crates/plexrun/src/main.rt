@@ -10,7 +10,7 @@ use std::process::ExitCode;
 use std::rt::{Env, Files};
 use std::{env, io};
 
-/// The words behind the program's name.
+/// The words after the program's name.
 fn words<R: Env + AllocGlobal>(rt: &R) -> io::Result<Vec<String>> {
     let words = env::args(rt)?.skip(1).collect(rt.alloc())?;
     Ok(words)

@@ -1,8 +1,9 @@
-use Rattle.std.proofs.Common.{take, string_bytes}
+use Rattle.std.proofs.Common.{take, Ok}
 use Rattle.std.specs.Prelude.{flat_map}
-use Rattle.plex_job.specs.Report.{HasPrinted}
+use Rattle.cause_defs.specs.Reports.{Reports}
 use Rattle.plex_job.proofs.report.write_lines.Given as goal
 
+-- the lines up to here are reported
 abbrev pub invariant-loop-line : goal.invariant-loop-line
 invariant-loop-line g l =
-    HasPrinted (g.W.Sink.written l.fn.out) (g.W.Sink.written l.out) (g.W.Sink.faults l.fn.out) (g.W.Sink.faults l.out) (flat_map string_bytes (take l.line-index l.lines))
+    Reports g.W.Sink.written g.W.Sink.flushed g.W.Sink.faults g.W.Sink.counts_failures_alone (Ok (tt {0})) l.fn.out l.out (flat_map (λ line. line.items) (take l.line-index l.lines))

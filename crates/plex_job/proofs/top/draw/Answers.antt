@@ -1,5 +1,5 @@
 use Rattle.std.proofs.Common.{◌∙◌, ap, sym}
-use Rattle.plex_job.specs.declared.status.Status.TheVariants.{Done}
+use Rattle.input_defs.specs.declared.Status.TheVariants.{Done}
 use Rattle.plex_job.specs.Answer.{verdict_on_content}
 use Rattle.plex_job.proofs.Forms.{content_is, few_nodes, few_elements}
 use Rattle.plex_job.proofs.Plain.{drawn-plain}

@@ -1,4 +1,7 @@
-use crate::{Status, job};
+//! Tests of the top call: its texts, statuses and faults, from a shelf and a sink in memory.
+#![tactic(auto)]
+
+use plex_job::{Status, job};
 use shelf_io::{MemoryShelf, MemorySink};
 use std::alloc::{AllocError, Global};
 use std::test::Fail;

@@ -1,7 +1,0 @@
-use Rattle.std.proofs.Common.{append_assoc}
-use Rattle.text_defs.specs.Refusals.{too_long_refused}
-use Rattle.plex_job.proofs.refusal.Refusal.line.Goals as goal
-
-pub returns-in-TooLong : goal.returns-in-TooLong
-unfolding too_long_refused
-returns-in-TooLong c = rw c.in-TooLong.is (simp append_assoc c.format-in-TooLong.ensures.ok)
