@@ -17,7 +17,8 @@ reversed n s = map (λ k. (n + s - k) % n) (below n)
 
 -- ---- the hexahedron: the lists of its corners that keep the set of its edges
 
-abbrev is_hex_edge : ℕ → ℕ → Bool
+-- an edge has these two corners
+abbrev pub is_hex_edge : ℕ → ℕ → Bool
 is_hex_edge a b = list_any (λ e. same_list e (a ∷ b ∷ []) || same_list e (b ∷ a ∷ [])) (edges_of Hex)
 
 -- c may stand after these corners: it is another one, and has an edge to the earlier ones just where its place has
@@ -31,7 +32,7 @@ edge_keeping zero = [] ∷ []
 edge_keeping (suc n) = flat_map (λ corners. map (λ c. corners ++ c ∷ []) (filter (may_follow corners) (below 8))) (edge_keeping n)
 
 -- each facet of the hexahedron becomes a facet with the same sense
-abbrev keeps_facets : List ℕ → Bool
+abbrev pub keeps_facets : List ℕ → Bool
 keeps_facets corners =
     list_all (λ f. list_any (λ g. list_any (λ o. same_list (picked corners f.corners) (picked g.corners (turned 4 o))) (below 4)) (facets_of Hex)) (facets_of Hex)
 

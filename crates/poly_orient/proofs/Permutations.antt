@@ -7,11 +7,11 @@ use Rattle.std.specs.Cmp.Lexicographic.{slice_cmp, same_text}
 use Rattle.std.specs.declared.cmp.Ordering.TheVariants.{Less, Equal, Greater}
 use Rattle.std.proofs.lemmas.Bool.{and_parts, ltb-true, eqb-true, eq-eqb, ne_eqb, not-true, false≢true, cond-true, cond-false}
 use Rattle.std.proofs.lemmas.List.{get_or_default, get_or-take, length-take}
-use Rattle.std.proofs.lemmas.List.Sums.{AllPass-from_list_all, list_all-from_AllPass}
+use Rattle.std.proofs.lemmas.List.Sums.{AllPass-from_list_all}
 use Rattle.std.proofs.lemmas.List.Folds.{Any-from_list_any, list_any_none}
 use Rattle.std.proofs.lemmas.List.Elements.{All-contains, All-from_get_or, recursion_from_All}
 use Rattle.plain_lists.specs.Lists.{below, same_list}
-use Rattle.plain_lists.proofs.Below.{passes-below, length-below, get_or-below}
+use Rattle.plain_lists.proofs.Below.{passes-below}
 use Rattle.poly_orient.specs.Rules.{IsOrder, AreRising}
 
 -- ---- tests of lists, and what they mean

@@ -1,8 +1,7 @@
 -- The tables of the code are the lists that the rules define, and a test that passes at all their rows passes at each.
-use Rattle.std.proofs.Common.{◌≡◌, ℕ, zero, suc, ◌<◌, true, Bool, ◌&&◌, ltb, List, [], ◌∷◌, length, get_or, refl, sym, ap, ◌∙◌, subst, below_more, arith}
+use Rattle.std.proofs.Common.{◌≡◌, ℕ, ◌<◌, true, Bool, ◌&&◌, ltb, List, [], ◌∷◌, length, get_or, refl, sym, ap, subst}
 use Rattle.std.specs.List.{list_all}
 use Rattle.std.proofs.lemmas.Bool.{and_parts, ltb-true}
-use Rattle.std.proofs.lemmas.List.Folds.{list_all-append}
 use Rattle.plain_lists.specs.Lists.{below}
 use Rattle.plain_lists.proofs.Below.{passes-below}
 use Rattle.mesh_defs.specs.declared.Poly.{Poly}

@@ -27,10 +27,10 @@ Contains-filter p (z ∷ xs) x (zero, lt, here) passes =
     let first : p z ≡ true = ap p here ∙ passes in
     subst (λ (ys : List _). Contains ys x) (sym (cond-true (p z) (z ∷ filter p xs) (filter p xs) first)) (0, omega arith, here)
 Contains-filter p (z ∷ xs) x (suc k, lt, here) passes =
-    let behind = Contains-filter p xs x (k, omega (arith, lt), here) passes in
+    let rest = Contains-filter p xs x (k, omega (arith, lt), here) passes in
     elim (cases_Bool (p z)) [
-      | inl kept ↦ subst (λ (ys : List _). Contains ys x) (sym (cond-true (p z) (z ∷ filter p xs) (filter p xs) kept)) (Contains-append_right (z ∷ []) (filter p xs) x behind)
-      | inr dropped ↦ subst (λ (ys : List _). Contains ys x) (sym (cond-false (p z) (z ∷ filter p xs) (filter p xs) dropped)) behind
+      | inl kept ↦ subst (λ (ys : List _). Contains ys x) (sym (cond-true (p z) (z ∷ filter p xs) (filter p xs) kept)) (Contains-append_right (z ∷ []) (filter p xs) x rest)
+      | inr dropped ↦ subst (λ (ys : List _). Contains ys x) (sym (cond-false (p z) (z ∷ filter p xs) (filter p xs) dropped)) rest
     ]
 
 -- ---- the search

@@ -4,8 +4,8 @@
 
 ghost use Rattle.std.specs.Prelude.{◌≡◌, ◌↔◌, ℕ, List, Contains, true, false};
 ghost use Rattle.mesh_defs.specs.declared.Poly.TheVariants.{Tet, Hex};
-ghost use Rattle.mesh_defs.specs.Orientation.{rotations, reflections};
-ghost use Rattle.poly_orient.specs.Rules.{IsOrder, AreRising, is_even, KeepsEdges, keeps_facets};
+ghost use Rattle.mesh_defs.specs.Orientation.{rotations, reflections, keeps_facets};
+ghost use Rattle.poly_orient.specs.Rules.{IsOrder, AreRising, is_even, KeepsEdges};
 
 /// The orientations of the tetrahedron are its permutations: from 0 on the even ones, from -1 down
 /// the odd ones, each in lexicographic order.
