@@ -41,7 +41,7 @@ const HEX_FACETS: [[u8; 4]; 6] = [
     [3, 0, 4, 7],
 ];
 
-/// The dimension of a polytope.
+/// The dimension of a polytope, 0 to 3: `DMPolytopeTypeGetDim`.
 pub fn dim(p: Poly) -> u32
     ensures { result ≡ dim_of p }
 {
@@ -53,7 +53,7 @@ pub fn dim(p: Poly) -> u32
     }
 }
 
-/// How many corners a polytope has.
+/// How many corners a polytope has: `DMPolytopeTypeGetNumVertices`.
 pub fn vertex_count(p: Poly) -> usize
     ensures { result ≡ corner_count p }
 {
@@ -67,7 +67,7 @@ pub fn vertex_count(p: Poly) -> usize
 }
 
 /// How many facets a polytope has: the ends of a segment, the edges of a polygon, the faces of a
-/// solid.
+/// solid. `DMPolytopeTypeGetConeSize`.
 pub fn facet_count(p: Poly) -> usize
     ensures { result ≡ length (facets_of p) }
 {
@@ -93,7 +93,7 @@ pub fn edge_count(p: Poly) -> usize
     }
 }
 
-/// The polytope of facet k.
+/// The polytope of facet `k`, which is below `facet_count(p)`.
 pub fn facet_poly(p: Poly, k: usize) -> Poly
     requires { k < length (facets_of p) }
     ensures { result ≡ (facet_at p k).poly }
@@ -106,7 +106,8 @@ pub fn facet_poly(p: Poly, k: usize) -> Poly
     }
 }
 
-/// The corner of the polytope at place j of facet k.
+/// The corner of the polytope at place `j` of facet `k`. The facet is below `facet_count(p)`, the place
+/// below the number of that facet's corners.
 pub fn facet_corner(p: Poly, k: usize, j: usize) -> usize
     requires facet { k < length (facets_of p) }
     requires place { j < length (facet_at p k).corners }
@@ -121,7 +122,7 @@ pub fn facet_corner(p: Poly, k: usize, j: usize) -> usize
     }
 }
 
-/// The corner of the polytope at place j, 0 or 1, of edge e.
+/// The corner of the polytope at place `j`, 0 or 1, of edge `e`, which is below `edge_count(p)`.
 pub fn edge_corner(p: Poly, e: usize, j: usize) -> usize
     requires edge { e < length (edges_of p) }
     requires place { j < 2 }
