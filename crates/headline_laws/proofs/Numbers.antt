@@ -16,14 +16,15 @@ use Rattle.mesh_defs.specs.Points.{Sight}
 use Rattle.text_defs.specs.Text.{Rank}
 use Rattle.sf_defs.specs.declared.Op.TheVariants.{Sum}
 use Rattle.sf_defs.specs.declared.Ask.{Ask}
-use Rattle.sf_defs.specs.Asks.{Entry, step, on_word, word_after}
+use Rattle.sf_defs.specs.Asks.{step, on_word, word_after}
 use Rattle.sf_defs.specs.PrintedOrder.{kind_of}
-use Rattle.sf_defs.specs.Rounds.{Round, added, asks_on, rank_entries, entries}
+use Rattle.sf_defs.specs.Rounds.{Round, added, asks_on, entries}
 use Rattle.rank_defs.specs.Home.{IsNumberRound, number_asks, bases_of}
 use Rattle.rank_defs.specs.Ranks.{owned}
 use Rattle.round_laws.specs.LastValues.{took}
 use Rattle.round_laws.proofs.LastValues.{legal-last}
 use Rattle.round_laws.proofs.Sums.{legal-sums}
+use Rattle.round_laws.proofs.Entries.{entries_from}
 use Rattle.headline_defs.specs.StepText.{ranks_with, numbered}
 
 -- ---- the numbers of one rank
@@ -110,10 +111,6 @@ word-after-sums f (r ∷ rs) word fits =
     let first : word + f r < 2 ^ 64 = omega (arith, sum_by-cons f r rs) in
     ap (λ w. word_after w (map (λ r. sum_ask (f r)) rs)) (mod-eq_of_lt first)
     ∙ word-after-sums f rs (word + f r) (omega (arith, sum_by-cons f r rs)) ∙ omega (arith, sum_by-cons f r rs)
-
--- the entries of ranks from n on
-abbrev entries_from : ℕ → List (List Ask) → List (List ℕ) → List Entry
-entries_from n asks got = flat_map (λ x. rank_entries x.0 x.1.0 x.1.1) (enumerate_from n (zip asks got))
 
 -- the entries take k as often as the ranks that made them cover it
 took-sums : (k i : ℕ) (f : ℕ → ℕ) (rs : List ℕ) (got : List (List ℕ)) → map length got ≡ map length (sum_asks f rs)

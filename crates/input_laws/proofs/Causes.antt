@@ -1,6 +1,6 @@
 -- What an answer without a fault says of the causes, and elements of lists.
-use Rattle.std.proofs.Common.{◌≡◌, zero, suc, Bool, true, false, cond, List, [], ◌∷◌, ◌++◌, Option, Some, None, Ok, Err, refl, subst, arith}
-use Rattle.std.specs.Prelude.{Result, find, option_map, flat_map, Contains}
+use Rattle.std.proofs.Common.{◌≡◌, Bool, true, false, cond, List, [], ◌∷◌, Option, Some, None, Ok, Err, refl}
+use Rattle.std.specs.Prelude.{Result, find, option_map}
 use Rattle.std.specs.List.{AllByRecursion}
 use Rattle.input_defs.specs.Causes.{first_cause, unless, ◌>>=◌}
 

@@ -1,5 +1,5 @@
 -- The elements that are not merged: each is the first one at its place.
-use Rattle.std.proofs.Common.{◌≡◌, ℕ, Bool, true, false, cond, not, ◌&&◌, ◌==◌, List, [], ◌∷◌, Some, Ok, Err, inl, inr, refl, sym, ap₂, ◌∙◌, true≢false}
+use Rattle.std.proofs.Common.{◌≡◌, Bool, true, false, cond, not, ◌&&◌, ◌==◌, List, [], ◌∷◌, Some, Ok, Err, inl, inr, refl, sym, ap₂, ◌∙◌, true≢false}
 use Rattle.std.specs.Prelude.{find, filter, nat_lt, length}
 use Rattle.std.specs.List.{list_any, AllByRecursion}
 use Rattle.std.specs.Cmp.Lexicographic.{same_text}

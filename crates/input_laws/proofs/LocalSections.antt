@@ -69,16 +69,16 @@ node-local earlier = bind-local line_of _ _ (tested-local line_of uint_of (λ li
     bind-local line_of _ _ (number-local line_of fixed_of) (λ z.
     give-local line_of (record { number = n; at = x ∷ y ∷ z ∷ [] })))))
 
-nodes_behind-local : (earlier : List ℕ) (n : ℕ) → IsLocal line_of (nodes_after earlier n)
+nodes_after-local : (earlier : List ℕ) (n : ℕ) → IsLocal line_of (nodes_after earlier n)
 unfolding nodes_after
-nodes_behind-local earlier zero = give-local line_of []
-nodes_behind-local earlier (suc n) = bind-local line_of _ _ (node-local earlier) (λ first.
-    bind-local line_of _ _ (nodes_behind-local (first.number ∷ earlier) n) (λ others.
+nodes_after-local earlier zero = give-local line_of []
+nodes_after-local earlier (suc n) = bind-local line_of _ _ (node-local earlier) (λ first.
+    bind-local line_of _ _ (nodes_after-local (first.number ∷ earlier) n) (λ others.
     give-local line_of (first ∷ others)))
 
 pub nodes-local : IsLocal line_of nodes
 unfolding nodes
-nodes-local = bind-local line_of _ _ (count-local 500000 what.Nodes) (λ n. nodes_behind-local [] n)
+nodes-local = bind-local line_of _ _ (count-local 500000 what.Nodes) (λ n. nodes_after-local [] n)
 
 corner-told : (known earlier : List ℕ) (l n : ℕ) (e : MshFault) → cond (has_number known n) (ok_where (not (has_number earlier n)) n (RepeatedNode l n)) (Err (UnknownNode l n)) ≡ Err e → line_of e ≡ l
 corner-told known earlier l n e h = go (has_number known n) h

@@ -3,14 +3,13 @@ use Rattle.std.proofs.Common.{◌≡◌, ◌≢◌, ◌⊎◌, ℕ, ◌+◌, min
 use Rattle.std.specs.Prelude.{find, option_and_then, unwrap_or, slice_index, if◌then◌else◌}
 use Rattle.std.specs.List.{list_any, position_or_len, AllByRecursion}
 use Rattle.std.proofs.lemmas.Bool.{cond-true, eq-eqb, ne_eqb, eqb-true, cases_eq, and_parts}
-use Rattle.std.specs.Cmp.Lexicographic.{same_text}
 use Rattle.std.proofs.lemmas.List.{map-append}
 use Rattle.mesh_defs.specs.Tables.{dim_of}
 use Rattle.mesh_defs.specs.declared.Poly.TheVariants.{Segment}
 use Rattle.plain_lists.specs.Lists.{same_list, sorted}
 use Rattle.plain_lists.proofs.Finding.{any_agree, position_agree, any_map, position_map, find-append_found, find-append_none, position-append_found, position-append_none, position-within, find-passes}
 use Rattle.plain_lists.proofs.Each.{all_weaker}
-use Rattle.plain_lists.proofs.Sorted.{same_list-self, same_list-turn}
+use Rattle.plain_lists.proofs.Sorted.{same_list-turn}
 use Rattle.mesh_defs.specs.Orientation.{relative}
 use Rattle.mesh_defs.specs.Points.{Sight, point_of, shows}
 use Rattle.mesh_defs.specs.Diagram.{firsts}

@@ -5,10 +5,10 @@ use Rattle.std.specs.List.{AllByRecursion, enumerate_from}
 use Rattle.std.proofs.lemmas.Bool.{ne_eqb, and_left, both_ways}
 use Rattle.mesh_defs.specs.declared.Poly.{Poly}
 use Rattle.mesh_defs.specs.declared.Poly.TheVariants.{Vertex, Segment, Triangle, Quad, Tet, Hex}
-use Rattle.plain_lists.specs.Lists.{below, picked, same_list, sorted}
+use Rattle.plain_lists.specs.Lists.{below, same_list, sorted}
 use Rattle.plain_lists.proofs.Finding.{none_passes, find-append_none}
 use Rattle.plain_lists.proofs.Each.{all_map, all_from, all_weaker, all_at}
-use Rattle.mesh_defs.specs.Tables.{Facet, dim_of, facets_of, edges_of}
+use Rattle.mesh_defs.specs.Tables.{dim_of, facets_of, edges_of}
 use Rattle.mesh_defs.specs.Orientation.{act, relative}
 use Rattle.mesh_defs.specs.Mesh.{Mesh, Cell, placed_cells}
 use Rattle.mesh_defs.specs.Points.{Point, Sight, point_on, shows, sights_of, sights, vertex_sight, vertex_sights, first_sight, key, arrangement, cell_face, cell_edge, cell_edges}
@@ -16,27 +16,27 @@ use Rattle.mesh_defs.specs.Diagram.{seen_under}
 use Rattle.mesh_laws.proofs.Turns.{relative-carries}
 
 -- the keys rise from low on, and stay below high
-abbrev pub Rises : ℕ → ℕ → List Sight → Type 0
-Rises low high [] = low ≤ high
-Rises low high (s ∷ ss) = (low ≤ s.key) × Rises (s.key + 1) high ss
+abbrev pub KeysRise : ℕ → ℕ → List Sight → Type 0
+KeysRise low high [] = low ≤ high
+KeysRise low high (s ∷ ss) = (low ≤ s.key) × KeysRise (s.key + 1) high ss
 
 -- wider bounds
-pub rises-wider : (low low' high high' : ℕ) (ss : List Sight) → low' ≤ low → high ≤ high' → Rises low high ss → Rises low' high' ss
+pub rises-wider : (low low' high high' : ℕ) (ss : List Sight) → low' ≤ low → high ≤ high' → KeysRise low high ss → KeysRise low' high' ss
 rises-wider low low' high high' [] l h r = omega arith
 rises-wider low low' high high' (s ∷ ss) l h r = (omega (arith, r.0), rises-wider (s.key + 1) (s.key + 1) high high' ss (omega arith) h r.1)
 
 -- two rising lists end to end
-pub rises-append : (low mid high : ℕ) (xs ys : List Sight) → Rises low mid xs → Rises mid high ys → Rises low high (xs ++ ys)
+pub rises-append : (low mid high : ℕ) (xs ys : List Sight) → KeysRise low mid xs → KeysRise mid high ys → KeysRise low high (xs ++ ys)
 rises-append low mid high [] ys p q = rises-wider mid low high high ys p (omega arith) q
 rises-append low mid high (x ∷ xs) ys p q = (p.0, rises-append (x.key + 1) mid high xs ys p.1 q)
 
 -- no key is below the lower bound
-rises-low : (low high : ℕ) (ss : List Sight) → Rises low high ss → AllByRecursion (λ (s : Sight). low ≤ s.key) ss
+rises-low : (low high : ℕ) (ss : List Sight) → KeysRise low high ss → AllByRecursion (λ (s : Sight). low ≤ s.key) ss
 rises-low low high [] r = tt
 rises-low low high (s ∷ ss) r = (r.0, all_weaker (λ (t : Sight). s.key + 1 ≤ t.key) (λ (t : Sight). low ≤ t.key) (λ t h. omega (arith, r.0)) ss (rises-low (s.key + 1) high ss r.1))
 
 -- sights that are numbered one after another
-rises-numbered : {X : Type 0} (base : ℕ) (f : ℕ × X → Sight) → ((c : ℕ × X) → (f c).key ≡ base + c.0) → (n : ℕ) (xs : List X) → Rises (base + n) (base + n + length xs) (map f (enumerate_from n xs))
+rises-numbered : {X : Type 0} (base : ℕ) (f : ℕ × X → Sight) → ((c : ℕ × X) → (f c).key ≡ base + c.0) → (n : ℕ) (xs : List X) → KeysRise (base + n) (base + n + length xs) (map f (enumerate_from n xs))
 rises-numbered base f e n [] = omega arith
 rises-numbered base f e n (x ∷ xs) = (
   omega (arith, e (n, x)),
@@ -62,7 +62,7 @@ few_edges Tet = omega arith
 few_edges Hex = omega arith
 
 -- the keys of cell c rise from 64c on
-pub sights_of-rise : (c : ℕ) (cell : Cell) → Rises (64 * c) (64 * c + 64) (sights_of (c, cell))
+pub sights_of-rise : (c : ℕ) (cell : Cell) → KeysRise (64 * c) (64 * c + 64) (sights_of (c, cell))
 unfolding sights_of
 sights_of-rise c cell = (
   omega arith,
@@ -73,19 +73,19 @@ sights_of-rise c cell = (
     faces : Bool → List Sight
     faces b = cond b (map (cell_face c cell) (enumerate_from 0 (facets_of cell.poly))) []
 
-    faces-rise : (b : Bool) → Rises (64 * c + 1) (64 * c + 8) (faces b)
+    faces-rise : (b : Bool) → KeysRise (64 * c + 1) (64 * c + 8) (faces b)
     faces-rise true = rises-wider (64 * c + 1 + 0) (64 * c + 1) (64 * c + 1 + 0 + length (facets_of cell.poly)) (64 * c + 8) (faces true) (omega arith) (omega (arith, few_facets cell.poly)) (rises-numbered (64 * c + 1) (cell_face c cell) (λ e. refl) 0 (facets_of cell.poly))
     faces-rise false = omega arith
 
 -- the keys of cells from place n on rise from 64n on
-sights-rise : (n : ℕ) (cells : List Cell) → Rises (64 * n) (64 * (n + length cells)) (sights (enumerate_from n cells))
+sights-rise : (n : ℕ) (cells : List Cell) → KeysRise (64 * n) (64 * (n + length cells)) (sights (enumerate_from n cells))
 sights-rise n [] = omega arith
 sights-rise n (cell ∷ cells) =
     rises-append (64 * n) (64 * n + 64) (64 * (n + length (cell ∷ cells))) (sights_of (n, cell)) (sights (enumerate_from (n + 1) cells)) (sights_of-rise n cell)
     (rises-wider (64 * (n + 1)) (64 * n + 64) (64 * (n + 1 + length cells)) (64 * (n + length (cell ∷ cells))) (sights (enumerate_from (n + 1) cells)) (omega arith) (omega arith) (sights-rise (n + 1) cells))
 
 -- what is found first has the least key
-pub found-least : (p : Point) (low high : ℕ) (ss : List Sight) (d : Sight) → Rises low high ss → (i : ℕ) → i < length ss → shows p (get_or ss i d) ≡ true → (t : Sight) × (find (shows p) ss ≡ Some t) × (t.key ≤ (get_or ss i d).key)
+pub found-least : (p : Point) (low high : ℕ) (ss : List Sight) (d : Sight) → KeysRise low high ss → (i : ℕ) → i < length ss → shows p (get_or ss i d) ≡ true → (t : Sight) × (find (shows p) ss ≡ Some t) × (t.key ≤ (get_or ss i d).key)
 found-least p low high [] d r = λ i h s. absurd (omega arith)
 found-least p low high (x ∷ xs) d r = go (shows p x) refl (found-least p (x.key + 1) high xs d r.1)
   where

@@ -1,6 +1,6 @@
 -- Orientations of vertices and segments, the order of two numbers, and what an orientation does.
-use Rattle.std.proofs.Common.{◌∙◌, ◌≤◌, ◌<◌, min, max, ◌≡◌, ◌≢◌, ℕ, ◌⊎◌, Bool, true, false, cond, ◌&&◌, ◌==◌, nat_le, List, [], ◌∷◌, pos, negsuc, ⊎_elim, ℤ, Some, None, refl, sym, inl, inr, subst, arith}
-use Rattle.std.specs.Prelude.{find, if◌then◌else◌}
+use Rattle.std.proofs.Common.{◌∙◌, ◌≤◌, ◌<◌, min, max, ◌≡◌, ◌≢◌, ℕ, ◌⊎◌, Bool, true, false, cond, ◌&&◌, ◌==◌, nat_le, List, [], ◌∷◌, pos, negsuc, ⊎_elim, ℤ, Some, None, refl, sym, inl, inr, arith}
+use Rattle.std.specs.Prelude.{if◌then◌else◌}
 use Rattle.std.proofs.lemmas.Bool.{cases_lt, le-leb, lt-leb, eq-eqb, ne_eqb, cond-true, cond-false}
 use Rattle.mesh_defs.specs.declared.Poly.{Poly}
 use Rattle.mesh_defs.specs.declared.Poly.TheVariants.{Vertex, Segment}

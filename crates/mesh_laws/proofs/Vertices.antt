@@ -1,5 +1,5 @@
 -- Vertices among all vertices of a mesh: each is found as its own sight, at its own place.
-use Rattle.std.proofs.Common.{◌≡◌, ℕ, zero, suc, ◌+◌, ◌<◌, ◌≤◌, true, false, cond, not, ◌||◌, ◌==◌, List, [], ◌∷◌, ◌++◌, map, length, Option, Some, None, refl, sym, ap, ap₂, ◌∙◌, ⊎_elim, arith}
+use Rattle.std.proofs.Common.{◌≡◌, ℕ, zero, suc, ◌+◌, ◌<◌, ◌≤◌, true, false, cond, not, ◌||◌, [], ◌∷◌, map, length, Some, refl, sym, ap, ap₂, ◌∙◌, ⊎_elim, arith}
 use Rattle.std.specs.Prelude.{find}
 use Rattle.std.specs.List.{list_any, position_or_len}
 use Rattle.std.proofs.lemmas.Bool.{or_left, or_right, eq-eqb, ne_eqb, cases_lt, cond-true}
@@ -54,4 +54,3 @@ vertex_found (suc n) v h =
   where
     here : n ≤ v → find (shows (point_of (vertex_sight v))) (vertex_sight n ∷ []) ≡ Some (vertex_sight v)
     here b = let same : n ≡ v = omega arith in cond-true _ _ _ (shows-vertex v n ∙ eq-eqb v n (sym same)) ∙ ap (λ w. Some (vertex_sight w)) same
-

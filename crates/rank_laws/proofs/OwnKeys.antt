@@ -10,7 +10,7 @@ use Rattle.plain_lists.proofs.Finding.{each_fails, none_passes, find-append_foun
 use Rattle.plain_lists.proofs.Each.{all_map, all_from, all_weaker, all_filter, all_flat_map, all_in_flat_map}
 use Rattle.mesh_defs.specs.Mesh.{Mesh, Cell, placed_cells}
 use Rattle.mesh_defs.specs.Points.{Point, Sight, shows, sights_of, sights, vertex_sight, vertex_sights, first_sight, key}
-use Rattle.mesh_laws.proofs.Keys.{Rises, rises-wider, rises-append, sights_of-rise, found-least, key-least}
+use Rattle.mesh_laws.proofs.Keys.{KeysRise, rises-wider, rises-append, sights_of-rise, found-least, key-least}
 use Rattle.rank_defs.specs.Ranks.{IsAssignment, least, rank_of, assigned, own_key}
 use Rattle.rank_laws.proofs.Lists.{least-some}
 use Rattle.rank_laws.proofs.Owning.{ranks-below, below_among}
@@ -121,14 +121,14 @@ module _ (m : Mesh) (p : Point) (ne : p.dim ≢ 0) where
 -- ---- the own key
 
 -- the keys of chosen cells rise
-chosen-rise : (q : ℕ × Cell → Bool) (n : ℕ) (cells : List Cell) → Rises (64 * n) (64 * (n + length cells)) (sights (filter q (enumerate_from n cells)))
+chosen-rise : (q : ℕ × Cell → Bool) (n : ℕ) (cells : List Cell) → KeysRise (64 * n) (64 * (n + length cells)) (sights (filter q (enumerate_from n cells)))
 chosen-rise q n [] = omega arith
 chosen-rise q n (cell ∷ cells) = go (q (n, cell)) (chosen-rise q (n + 1) cells)
   where
     rest : List (ℕ × Cell)
     rest = filter q (enumerate_from (n + 1) cells)
 
-    go : (b : Bool) → Rises (64 * (n + 1)) (64 * (n + 1 + length cells)) (sights rest) → Rises (64 * n) (64 * (n + length (cell ∷ cells))) (sights (cond b ((n, cell) ∷ rest) rest))
+    go : (b : Bool) → KeysRise (64 * (n + 1)) (64 * (n + 1 + length cells)) (sights rest) → KeysRise (64 * n) (64 * (n + length (cell ∷ cells))) (sights (cond b ((n, cell) ∷ rest) rest))
     go true r =
         rises-append (64 * n) (64 * n + 64) (64 * (n + length (cell ∷ cells))) (sights_of (n, cell)) (sights rest) (sights_of-rise n cell)
         (rises-wider (64 * (n + 1)) (64 * n + 64) (64 * (n + 1 + length cells)) (64 * (n + length (cell ∷ cells))) (sights rest) (omega arith) (omega arith) r)

@@ -96,7 +96,7 @@ numbered-at rank n (a ∷ asks) (g ∷ got) a0 all values h k = (
 -- ---- all ranks
 
 -- the entries of ranks from n on
-abbrev entries_from : ℕ → List (List Ask) → List (List ℕ) → List Entry
+abbrev pub entries_from : ℕ → List (List Ask) → List (List ℕ) → List Entry
 entries_from n asks got = flat_map (λ x. rank_entries x.0 x.1.0 x.1.1) (enumerate_from n (zip asks got))
 
 rank_entries-own : (rank : ℕ) (asks : List Ask) (got : List ℕ) → of_rank rank (rank_entries rank asks got) ≡ rank_entries rank asks got

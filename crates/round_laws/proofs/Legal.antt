@@ -12,7 +12,7 @@ use Rattle.sf_defs.specs.PrintedOrder.{kind_of, stands_before, printed_order}
 use Rattle.sf_defs.specs.Rounds.{Round, SuitsWord, MeetsConditions, IsLegal, entries, entry_at, turn_of, printed_turns, in_order, places_of, places_on}
 use Rattle.round_laws.specs.ReplayingOrders.{HasReplayingOrders, IsPrinted}
 use Rattle.round_laws.proofs.Shuffles.{rank_of_all}
-use Rattle.round_laws.proofs.Sorting.{all_sorted}
+use Rattle.round_laws.proofs.Sorting.{all_sorted_by}
 use Rattle.round_laws.proofs.Word.{asks_of, printed-replays, printed-is_order}
 use Rattle.round_laws.proofs.Entries.{entries-at, entries-own_order, asks_on-entries, places_of-turns, places_on-entries}
 
@@ -24,7 +24,7 @@ named_again asks got (e ∷ es) h = (λ i. h.0 i ∷ named_again asks got es h.1
 -- what all entries have, they have in the printed order
 all_printed : (P : Entry → Type 0) (first : ℕ) (es : List Entry) → AllByRecursion P es → AllByRecursion P (printed_order first es)
 unfolding printed_order
-all_printed P first es h = all_sorted P (stands_before (kind_of (asks_of es)) first) es h
+all_printed P first es h = all_sorted_by P (stands_before (kind_of (asks_of es)) first) es h
 
 -- the entries at the printed turns are the entries in the printed order
 printed-entries : (before : List ℕ) (asks : List (List Ask)) (got : List (List ℕ)) (w : ℕ) → map (entry_at asks got) (printed_turns before asks got w) ≡ printed_order (get_or before w 0) (on_word w (entries asks got))

@@ -13,7 +13,7 @@ use Rattle.sf_defs.specs.PrintedOrder.{changes, then_by, kind_of, stands_before,
 use Rattle.sf_defs.specs.Rounds.{entries, entry_at, turn_of}
 use Rattle.round_laws.proofs.Comparison.{IsTotal, total_printed, strict_fetched, strict_rising}
 use Rattle.round_laws.proofs.Shuffles.{all_shuffled, count-shuffled}
-use Rattle.round_laws.proofs.Sorting.{all_placed, all_sorted, placed-before, placed-behind}
+use Rattle.round_laws.proofs.Sorting.{all_placed, all_sorted_by, placed-before, placed-after}
 use Rattle.round_laws.proofs.Word.{asks_of}
 use Rattle.round_laws.proofs.Entries.{entries-at}
 
@@ -46,7 +46,7 @@ module _ (before : Entry → Entry → Bool) where
       go : (b : Bool) → before e x ≡ b → count_by p (placed before e xs) ≡ count_by p (e ∷ xs) → count_by p (placed before e (x ∷ xs)) ≡ count_by p (e ∷ x ∷ xs)
       go true h r = ap (count_by p) (placed-before before e x xs h)
       go false h r =
-          ap (count_by p) (placed-behind before e x xs h) ∙ sum_by-cons one x (placed before e xs) ∙ ap (λ n. one x + n) (r ∙ sum_by-cons one e xs)
+          ap (count_by p) (placed-after before e x xs h) ∙ sum_by-cons one x (placed before e xs) ∙ ap (λ n. one x + n) (r ∙ sum_by-cons one e xs)
           ∙ flip (one x) (one e) (sum_by one xs) ∙ ap (λ n. one e + n) (sym (sum_by-cons one x xs)) ∙ sym (sum_by-cons one e (x ∷ xs))
 
   -- sorting keeps every count
@@ -156,7 +156,7 @@ module _ (first : ℕ) (asks : List (List Ask)) (got : List (List ℕ)) (w : ℕ
   unfolding printed_order before own
   in_order-printed es named counts neighbours =
       let order = total_printed (kind_of (asks_of (on_word w (entries asks got)))) first in
-      same_in_order before order IsNamed apart es (sorted_by before own) (in_order-from_neighbours before order es neighbours) (sorted-in_order before order own) named (all_sorted IsNamed before own own_named) (λ p. counts p ∙ sym (count-sorted before p own))
+      same_in_order before order IsNamed apart es (sorted_by before own) (in_order-from_neighbours before order es neighbours) (sorted-in_order before order own) named (all_sorted_by IsNamed before own own_named) (λ p. counts p ∙ sym (count-sorted before p own))
 
   -- the entries on a word, sorted in whatever way, are in the printed order
   pub sorted-printed : (es : List Entry) → IsPermutation (on_word w (entries asks got)) es

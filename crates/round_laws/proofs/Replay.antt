@@ -39,15 +39,15 @@ module _ (kind : Op) (first : ℕ) where
       (λ i. then_by (here i) (there i) (then_by (not (changes d) && changes e) (not (changes e) && changes d) (then_by (nat_lt d.rank e.rank) (nat_lt e.rank d.rank) (nat_le d.index e.index))))
 
   -- e fetched v, the next entry fetched what e left, and yet e stands after it: neither changes the word
-  idle_behind : (e x : Entry) → MovesOn e → x.got ≡ after_ask e.ask e.got → stands_before kind first e x ≡ false → (changes e ≡ false) × (changes x ≡ false)
-  idle_behind e x moves next behind = go (changes e) refl
+  idle_after : (e x : Entry) → MovesOn e → x.got ≡ after_ask e.ask e.got → stands_before kind first e x ≡ false → (changes e ≡ false) × (changes x ≡ false)
+  idle_after e x moves next later = go (changes e) refl
     where
       second : changes e ≡ false → (b : Bool) → changes x ≡ b → b ≡ false
-      second still true k = absurd (true≢false (sym (compared e x (sym (unchanged e still) ∙ sym next) ∙ (λ i. then_by (not (still i) && k i) (not (k i) && still i) (then_by (nat_lt e.rank x.rank) (nat_lt x.rank e.rank) (nat_le e.index x.index)))) ∙ behind))
+      second still true k = absurd (true≢false (sym (compared e x (sym (unchanged e still) ∙ sym next) ∙ (λ i. then_by (not (still i) && k i) (not (k i) && still i) (then_by (nat_lt e.rank x.rank) (nat_lt x.rank e.rank) (nat_le e.index x.index)))) ∙ later))
       second still false k = refl
 
       go : (b : Bool) → changes e ≡ b → (changes e ≡ false) × (changes x ≡ false)
-      go true k = absurd (true≢false (sym (before_by_fetched e x (ap (λ g. fetched_before kind first e.got g) next ∙ moves k)) ∙ behind))
+      go true k = absurd (true≢false (sym (before_by_fetched e x (ap (λ g. fetched_before kind first e.got g) next ∙ moves k)) ∙ later))
       go false k = (k, second k (changes x) refl)
 
   -- ---- sorting keeps replay
@@ -61,7 +61,7 @@ module _ (kind : Op) (first : ℕ) where
           → Replays word (cond b (e ∷ x ∷ xs) (x ∷ placed (stands_before kind first) e xs)) last
       go true k r = (at, h)
       go false k r =
-          let idle = idle_behind e x moves (h.0 ∙ ap (after_ask e.ask) (sym at)) k in
+          let idle = idle_after e x moves (h.0 ∙ ap (after_ask e.ask) (sym at)) k in
           let left : after_ask e.ask word ≡ word = ap (after_ask e.ask) (sym at) ∙ unchanged e idle.0 ∙ at in
           let got : x.got ≡ word = h.0 ∙ left in
           let passed : after_ask x.ask word ≡ word = ap (after_ask x.ask) (sym got) ∙ unchanged x idle.1 ∙ got in

@@ -75,10 +75,10 @@ joined-at rank n (suc k) (q ∷ qs) own h =
     ∙ joined-at rank (n + 1) k qs (next-queues n q qs own) (omega arith)
 
 -- a queue after its pick
-picked : (p : ℕ) (qs : List (List Event)) → get_or (set qs p (drop 1 (get_or qs p []))) p [] ≡ drop 1 (get_or qs p [])
-picked p [] = refl
-picked zero (q ∷ qs) = refl
-picked (suc p) (q ∷ qs) = picked p qs
+rest-of_pick : (p : ℕ) (qs : List (List Event)) → get_or (set qs p (drop 1 (get_or qs p []))) p [] ≡ drop 1 (get_or qs p [])
+rest-of_pick p [] = refl
+rest-of_pick zero (q ∷ qs) = refl
+rest-of_pick (suc p) (q ∷ qs) = rest-of_pick p qs
 
 all-drop_one : (P : Event → Type 0) (es : List Event) → AllByRecursion P es → AllByRecursion P (drop 1 es)
 all-drop_one P [] h = tt
@@ -99,7 +99,7 @@ walk-queues (p ∷ picks) qs rank own =
     let first : events_of rank (take 1 (get_or qs p [])) ≡ take 1 (get_or qs p []) = events-own rank (take 1 (get_or qs p [])) (subst (λ m. AllByRecursion (λ (e : Event). e.rank ≡ m) (take 1 (get_or qs p []))) same (all-take_one _ (get_or qs p []) here)) in
     ap (λ l. l ++ get_or (set qs p (drop 1 (get_or qs p []))) rank []) first
     ∙ ap (λ m. take 1 (get_or qs p []) ++ get_or (set qs p (drop 1 (get_or qs p []))) m []) (sym same)
-    ∙ ap (λ l. take 1 (get_or qs p []) ++ l) (picked p qs)
+    ∙ ap (λ l. take 1 (get_or qs p []) ++ l) (rest-of_pick p qs)
     ∙ take-append-drop 1 (get_or qs p [])
     ∙ ap (λ m. get_or qs m []) same)
     (λ other.
@@ -112,7 +112,7 @@ walk-queues (p ∷ picks) qs rank own =
 
     still : AreQueues 0 (set qs p (drop 1 (get_or qs p [])))
     still k = ⊎_elim
-        (λ same. subst (λ m. AllByRecursion (λ (e : Event). e.rank ≡ 0 + m) (get_or (set qs p (drop 1 (get_or qs p []))) m [])) same (subst (AllByRecursion (λ (e : Event). e.rank ≡ 0 + p)) (sym (picked p qs)) (all-drop_one _ (get_or qs p []) (own p))))
+        (λ same. subst (λ m. AllByRecursion (λ (e : Event). e.rank ≡ 0 + m) (get_or (set qs p (drop 1 (get_or qs p []))) m [])) same (subst (AllByRecursion (λ (e : Event). e.rank ≡ 0 + p)) (sym (rest-of_pick p qs)) (all-drop_one _ (get_or qs p []) (own p))))
         (λ other. subst (AllByRecursion (λ (e : Event). e.rank ≡ 0 + k)) (sym (get_or-set_other qs p k (drop 1 (get_or qs p [])) [] (λ e. other (sym e)))) (own k))
         (same_rank p k)
 
