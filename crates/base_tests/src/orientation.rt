@@ -1,9 +1,7 @@
 ghost use Rattle.std.specs.Prelude.{◌≡◌, ◌≤◌, length};
 ghost use Rattle.mesh_defs.specs.Tables.{corner_count};
 
-use poly_orient::{
-    Poly, act, compose, cone_under, inverse, orientations, relative,
-};
+use poly_orient::{Poly, act, compose, cone_under, inverse, orientations, relative};
 use poly_tables::{facet_count, vertex_count};
 use std::process::Abort;
 

@@ -1,11 +1,10 @@
 -- What some cell of a sound mesh contains stands in the chart of all cells.
-use Rattle.std.proofs.Common.{◌≡◌, ℕ, ◌+◌, ◌*◌, ◌<◌, Bool, true, false, cond, ◌==◌, List, [], ◌∷◌, map, length, refl, sym, ap, ◌∙◌, inl, inr, ◌⊎◌, ⊎_elim, arith}
+use Rattle.std.proofs.Common.{◌≡◌, ℕ, ◌<◌, Bool, true, ◌==◌, List, [], ◌∷◌, map, length, refl, sym, ap, ◌∙◌, inl, inr, ◌⊎◌, ⊎_elim, arith}
 use Rattle.std.specs.List.{list_any, AllByRecursion, enumerate_from}
 use Rattle.std.proofs.lemmas.Bool.{eqb-true, and_parts, or_cases, or_left, or_right}
 use Rattle.std.proofs.lemmas.List.Folds.{list_any-append}
-use Rattle.mesh_defs.specs.declared.Poly.TheVariants.{Segment}
-use Rattle.plain_lists.specs.Lists.{same_list, picked}
-use Rattle.plain_lists.proofs.Each.{all_from, all_weaker, all_both, all_map, all_append, all_enumerated, each_passes}
+use Rattle.plain_lists.specs.Lists.{same_list}
+use Rattle.plain_lists.proofs.Each.{all_from, all_weaker, all_both, all_enumerated, each_passes}
 use Rattle.plain_lists.proofs.Finding.{any_map, stands, found-any}
 use Rattle.mesh_defs.specs.Tables.{Facet, dim_of, facets_of, edges_of}
 use Rattle.mesh_defs.specs.Mesh.{Mesh, Cell, placed_cells}

@@ -4,11 +4,11 @@ ghost use Rattle.std.specs.Prelude.{◌≡◌, ◌<◌, slice_index};
 ghost use Rattle.mesh_defs.specs.Tables.{corner_count};
 ghost use Rattle.poly_orient.specs.Symmetries.{corners_listed, IsSymmetry, place, second};
 
+use crate::symmetry::Symmetry;
 use crate::tables::{
     HEX_NUMBERS, HEX_REFLECTIONS, HEX_ROTATIONS, QUAD_REFLECTIONS, QUAD_ROTATIONS, TET_NUMBERS,
     TET_REFLECTIONS, TET_ROTATIONS, TRIANGLE_REFLECTIONS, TRIANGLE_ROTATIONS,
 };
-use crate::symmetry::Symmetry;
 use poly_tables::Poly;
 
 /// The corner at place k.

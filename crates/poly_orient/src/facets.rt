@@ -8,8 +8,8 @@ ghost use Rattle.poly_orient.specs.Group.{IsOrientation, facet_under};
 ghost use Rattle.poly_orient.specs.Symmetries.{IsSymmetry, facet_along, place_along, start_after, facet_corner_listed, facet_second, facet_from};
 
 use crate::corners::corner;
-use crate::tables::{HEX_FACETS_ALONG, HEX_PLACES_ALONG, TET_FACETS_ALONG, TET_PLACES_ALONG};
 use crate::symmetry::{Symmetry, orientation_of, symmetry_of};
+use crate::tables::{HEX_FACETS_ALONG, HEX_PLACES_ALONG, TET_FACETS_ALONG, TET_PLACES_ALONG};
 use poly_tables::{Poly, facet_corner};
 
 /// The facet around which its own sense leads from corner `a` to corner `b`, by that of the edges of
@@ -82,7 +82,10 @@ fn facet_from(p: Poly, symmetry: Symmetry, a: usize, b: usize) -> (usize, Symmet
 {
     match (p, symmetry) {
         (Poly::Vertex | Poly::Segment, _) => (a, Symmetry::Rotation(0)),
-        (_, Symmetry::Rotation(_)) => (facet_along(p, a, b), Symmetry::Rotation(place_along(p, a, b))),
+        (_, Symmetry::Rotation(_)) => (
+            facet_along(p, a, b),
+            Symmetry::Rotation(place_along(p, a, b)),
+        ),
         (_, Symmetry::Reflection(_)) => {
             let start = start_after(p, place_along(p, b, a));
             (facet_along(p, b, a), Symmetry::Reflection(start))

@@ -8,10 +8,10 @@ ghost use Rattle.poly_orient.specs.Group.{IsOrientation, composition, corners_of
 ghost use Rattle.poly_orient.specs.Symmetries.{corners_listed, IsSymmetry, combine_senses, place, second, undo};
 
 use crate::corners::{corner, place, second};
+use crate::symmetry::{Symmetry, orientation_of, symmetry_of};
 use crate::tables::{
     HEX_REFLECTION_INVERSES, HEX_ROTATION_INVERSES, TET_REFLECTION_INVERSES, TET_ROTATION_INVERSES,
 };
-use crate::symmetry::{Symmetry, orientation_of, symmetry_of};
 use poly_tables::Poly;
 
 /// The symmetry at this place whose sense is kept where both symmetries keep it or neither does.
@@ -20,9 +20,8 @@ fn combine_senses(a: Symmetry, b: Symmetry, place: usize) -> Symmetry
     ensures { result ≡ combine_senses a b place }
 {
     match (a, b) {
-        (Symmetry::Rotation(_), Symmetry::Rotation(_)) | (Symmetry::Reflection(_), Symmetry::Reflection(_)) => {
-            Symmetry::Rotation(place)
-        }
+        (Symmetry::Rotation(_), Symmetry::Rotation(_))
+        | (Symmetry::Reflection(_), Symmetry::Reflection(_)) => { Symmetry::Rotation(place) }
         _ => Symmetry::Reflection(place),
     }
 }
@@ -49,9 +48,13 @@ fn undo(p: Poly, symmetry: Symmetry) -> Symmetry
         (Poly::Triangle, Symmetry::Rotation(o)) => Symmetry::Rotation((3 - o) % 3),
         (Poly::Quad, Symmetry::Rotation(o)) => Symmetry::Rotation((4 - o) % 4),
         (Poly::Tet, Symmetry::Rotation(o)) => Symmetry::Rotation(TET_ROTATION_INVERSES[o] as usize),
-        (Poly::Tet, Symmetry::Reflection(s)) => Symmetry::Reflection(TET_REFLECTION_INVERSES[s] as usize),
+        (Poly::Tet, Symmetry::Reflection(s)) => Symmetry::Reflection(
+            TET_REFLECTION_INVERSES[s] as usize,
+        ),
         (Poly::Hex, Symmetry::Rotation(o)) => Symmetry::Rotation(HEX_ROTATION_INVERSES[o] as usize),
-        (Poly::Hex, Symmetry::Reflection(s)) => Symmetry::Reflection(HEX_REFLECTION_INVERSES[s] as usize),
+        (Poly::Hex, Symmetry::Reflection(s)) => Symmetry::Reflection(
+            HEX_REFLECTION_INVERSES[s] as usize,
+        ),
         _ => symmetry,
     }
 }

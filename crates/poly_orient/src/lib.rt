@@ -9,8 +9,8 @@ mod group;
 mod listing;
 mod relation;
 mod rules;
-mod tables;
 mod symmetry;
+mod tables;
 
 pub use facets::cone_under;
 pub use group::{compose, inverse};

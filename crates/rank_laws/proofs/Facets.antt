@@ -1,16 +1,16 @@
 -- The facets of every point of an accepted mesh are points of the mesh, seen under some orientation.
-use Rattle.std.proofs.Common.{◌≡◌, ◌≢◌, ℕ, ◌+◌, ◌*◌, ◌<◌, Bool, true, false, cond, ◌&&◌, ◌==◌, nat_lt, if◌then◌else◌, List, [], ◌∷◌, map, length, get_or, slice_index, pos, negsuc, Option, Some, None, refl, sym, ap, ◌∙◌, subst, inl, inr, ⊎_elim, arith}
+use Rattle.std.proofs.Common.{◌≡◌, ◌≢◌, ℕ, ◌+◌, ◌*◌, ◌<◌, Bool, true, false, cond, ◌&&◌, ◌==◌, nat_lt, List, [], ◌∷◌, length, get_or, slice_index, pos, negsuc, Option, Some, None, refl, sym, ap, ◌∙◌, subst, inl, inr, ⊎_elim, arith}
 use Rattle.std.specs.Prelude.{find, option_map, option_and_then, is_none}
 use Rattle.std.specs.List.{list_any, list_all, AllByRecursion, filter, enumerate_from}
 use Rattle.std.specs.Cmp.Lexicographic.{same_text}
-use Rattle.std.proofs.lemmas.Bool.{and_parts, and_from, ltb-true, eqb-true, eq-eqb, or_left, or_right, or_cases, cond-true, both_ways}
+use Rattle.std.proofs.lemmas.Bool.{and_parts, and_from, ltb-true, eqb-true, eq-eqb, or_left, or_right, or_cases, both_ways}
 use Rattle.std.proofs.lemmas.List.{length-map, get_or-map}
 use Rattle.std.proofs.lemmas.List.Folds.{list_any-append}
 use Rattle.mesh_defs.specs.declared.Poly.{Poly}
 use Rattle.mesh_defs.specs.declared.Poly.TheVariants.{Vertex, Segment}
 use Rattle.plain_lists.specs.Lists.{below, same_list, sorted, picked}
 use Rattle.plain_lists.proofs.Finding.{each_fails, stands, find-cases, find-has, found-any}
-use Rattle.plain_lists.proofs.Each.{all_append_first, all_in_flat_map, all_weaker, all_both, all_from, all_append, all_map, all_enumerated, all_at, all_mapped, each_passes}
+use Rattle.plain_lists.proofs.Each.{all_in_flat_map, all_weaker, all_both, all_from, all_map, all_enumerated, all_at, each_passes}
 use Rattle.plain_lists.proofs.Below.{picked-picked}
 use Rattle.mesh_defs.specs.Tables.{Facet, dim_of, corner_count, facets_of, edges_of}
 use Rattle.mesh_defs.specs.Orientation.{relative}

@@ -1,13 +1,13 @@
 -- What a cell contains, it contains with its facets.
-use Rattle.std.proofs.Common.{◌≡◌, ℕ, zero, suc, ◌+◌, ◌*◌, ◌<◌, Bool, true, false, cond, ◌&&◌, ◌==◌, nat_lt, if◌then◌else◌, List, [], ◌∷◌, map, length, get_or, slice_index, refl, sym, ◌∙◌, subst, subst₂, ⊎_elim, arith}
+use Rattle.std.proofs.Common.{◌≡◌, ℕ, zero, suc, ◌+◌, ◌*◌, ◌<◌, true, ◌&&◌, ◌==◌, nat_lt, List, [], ◌∷◌, map, length, get_or, slice_index, refl, sym, ◌∙◌, subst, subst₂, ⊎_elim, arith}
 use Rattle.std.specs.List.{list_any, list_all, AllByRecursion, enumerate_from}
-use Rattle.std.proofs.lemmas.Bool.{and_parts, ltb-true, eqb-true, eq-eqb, or_left, or_right, cond-true}
+use Rattle.std.proofs.lemmas.Bool.{and_parts, ltb-true, eqb-true, eq-eqb, or_left, or_right}
 use Rattle.std.proofs.lemmas.List.{get_or-map}
 use Rattle.std.proofs.lemmas.List.Folds.{list_any-append}
 use Rattle.mesh_defs.specs.declared.Poly.{Poly}
 use Rattle.mesh_defs.specs.declared.Poly.TheVariants.{Vertex, Segment}
 use Rattle.plain_lists.specs.Lists.{picked}
-use Rattle.plain_lists.proofs.Each.{all_at, all_weaker, all_map, all_append, all_append_first, all_enumerated, all_mapped, each_passes}
+use Rattle.plain_lists.proofs.Each.{all_at, all_weaker, all_enumerated, each_passes}
 use Rattle.plain_lists.proofs.Below.{picked-picked}
 use Rattle.mesh_defs.specs.Tables.{Facet, dim_of, corner_count, facets_of, edges_of}
 use Rattle.mesh_defs.specs.Mesh.{Mesh, Cell}

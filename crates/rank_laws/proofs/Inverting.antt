@@ -6,7 +6,7 @@ use Rattle.std.proofs.lemmas.Bool.{eq-eqb, eqb-true, ne_eqb, ltb-true, ltb-false
 use Rattle.std.proofs.lemmas.List.Elements.{filter_map-append}
 use Rattle.std.proofs.lemmas.List.Sums.{sum_by-cons}
 use Rattle.plain_lists.specs.Lists.{below}
-use Rattle.plain_lists.proofs.Each.{all_both, all_append_first, all_append_second, all_in_flat_map, all_mapped}
+use Rattle.plain_lists.proofs.Each.{all_both, all_in_flat_map, all_mapped}
 use Rattle.plain_lists.proofs.Finding.{each_fails, find-passes, find-cases, find-has}
 use Rattle.plain_lists.proofs.Below.{below-all, at-below}
 use Rattle.plain_lists.proofs.Filters.{image-at}

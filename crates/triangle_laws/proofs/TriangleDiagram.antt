@@ -1,8 +1,8 @@
 -- The diagram of a mesh of triangles, edge by edge.
-use Rattle.std.proofs.Common.{◌≡◌, ℕ, zero, suc, ◌+◌, ◌*◌, ◌<◌, ◌≤◌, true, false, cond, not, ◌||◌, ◌&&◌, ◌==◌, List, [], ◌∷◌, ◌++◌, map, length, pos, Option, Some, None, refl, sym, ap, ap₂, ◌∙◌, subst, ⊎_elim, length-append, append-nil, arith}
+use Rattle.std.proofs.Common.{◌≡◌, ℕ, ◌+◌, ◌*◌, ◌<◌, ◌≤◌, true, false, cond, not, ◌||◌, ◌&&◌, ◌==◌, List, [], ◌∷◌, ◌++◌, map, length, pos, Option, Some, None, refl, sym, ap, ap₂, ◌∙◌, subst, length-append, append-nil, arith}
 use Rattle.std.specs.Prelude.{find, flat_map, option_map, option_and_then, unwrap_or, slice_index, if◌then◌else◌}
 use Rattle.std.specs.List.{list_any, position_or_len, AllByRecursion, filter, enumerate_from}
-use Rattle.std.proofs.lemmas.Bool.{or_left, or_right, eq-eqb, ne_eqb, cases_lt, cond-true}
+use Rattle.std.proofs.lemmas.Bool.{or_left, or_right, cond-true}
 use Rattle.std.proofs.lemmas.List.{length-map, map-append}
 use Rattle.std.proofs.lemmas.List.FromFn.{length-enumerate_from}
 use Rattle.std.proofs.lemmas.List.Folds.{list_any-append}
@@ -24,7 +24,7 @@ use Rattle.triangle_laws.specs.TriangleMesh.{cell_cover, edge_cover, triangle_di
 use Rattle.mesh_laws.proofs.Firsts.{shown_among_firsts, find-firsts, firsts-fresh, firsts-all, firsts-length}
 use Rattle.mesh_laws.proofs.Turns.{relative-vertex}
 use Rattle.mesh_laws.proofs.Entries.{entry_among-bounds}
-use Rattle.mesh_laws.proofs.Containing.{shows-vertex, chart-all}
+use Rattle.mesh_laws.proofs.Containing.{chart-all}
 use Rattle.mesh_laws.proofs.Vertices.{vertex_below, vertex_place, vertex_found}
 
 -- ---- the sights of triangles

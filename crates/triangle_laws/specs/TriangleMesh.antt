@@ -2,7 +2,6 @@
 use Rattle.std.specs.Prelude.{◌≡◌, ◌≢◌, ℕ, ◌+◌, ◌*◌, ◌<◌, Bool, true, ◌==◌, List, [], ◌∷◌, ◌++◌, length, map, flat_map, slice_index, pos, ◌≤◌}
 use Rattle.std.specs.List.{list_any, AllByRecursion}
 use Rattle.mesh_defs.specs.declared.Poly.TheVariants.{Vertex, Segment, Triangle}
-use Rattle.mesh_defs.specs.declared.ConeEntry.{ConeEntry}
 use Rattle.plain_lists.specs.Lists.{differ_as_sets}
 use Rattle.mesh_defs.specs.Mesh.{Mesh, Cell, placed_cells}
 use Rattle.mesh_defs.specs.Points.{Sight, vertex_sights}
