@@ -4,6 +4,7 @@ pub mod Bodies
 pub mod Sections
 pub mod DataSections
 pub mod Files
+pub mod RightContent
 pub mod Meshes
 pub mod Plans
 pub mod States
