@@ -1,7 +1,7 @@
 -- Worked rows: from words and the bytes of files to the bytes of the text.
 use Rattle.std.proofs.Common.{◌≡◌, ℕ, List, [], ◌∷◌, Option, Some, None, Ok, Err, refl}
 use Rattle.std.specs.Prelude.{codes, option_and_then, Result, if◌then◌else◌}
-use Rattle.headline_defs.specs.Headline.{Files, Asking, subject_of, given}
+use Rattle.headline_defs.specs.Headline.{AskedFiles, Asking, subject_of, given}
 use Rattle.headline_defs.specs.Lines.{move_line, ghost_line, point_tail, owned_line, held_line, closure_line, trace_line, turn_text, window_line, sum_line}
 use Rattle.headline_defs.specs.Picks.{picks_of}
 use Rattle.headline_defs.specs.Rounds.{due}
@@ -56,7 +56,7 @@ printed picks (Ok task) = whole_text (subject_of task) (runs picks task)
 printed picks (Err refusal) = refusal.text
 
 -- those that are asked for
-abbrev files_of : Asking → Files
+abbrev files_of : Asking → AskedFiles
 files_of a = record { plan = option_and_then file_named a.plan_name; mesh = option_and_then file_named a.mesh_name }
 
 abbrev printed_by : List (List ℕ) → List ℕ

@@ -34,7 +34,7 @@ pub record Call : Type 0 where
   pub status : Status
 
 -- The bytes of the plan's file and of the mesh's file, of each where it is there.
-pub record Files : Type 0 where
+pub record AskedFiles : Type 0 where
   pub plan : Option (List ℕ)
   pub mesh : Option (List ℕ)
 
@@ -59,7 +59,7 @@ pub record Asking : Type 0 where
 
 -- The files of a call, each in accord with what is told under its name. Where nothing is told of a name that is asked for
 -- twice, the two files may differ: a shelf may answer two takes of one name differently.
-pub record AreFiles (a : Asking) (file : List ℕ → Told (List ℕ)) (files : Files) : Type 0 where
+pub record AreFiles (a : Asking) (file : List ℕ → Told (List ℕ)) (files : AskedFiles) : Type 0 where
   pub plan : IsFileNamed file a.plan_name files.plan
   pub mesh : IsFileNamed file a.mesh_name files.mesh
 
@@ -72,11 +72,11 @@ abbrev pub names_asked : Asking → List (List ℕ)
 names_asked a = listed a.plan_name ++ listed a.mesh_name
 
 -- what files give but for a twist of the mesh
-abbrev pub fitting_given : Asking → Files → Result Task Refusal
+abbrev pub fitting_given : Asking → AskedFiles → Result Task Refusal
 fitting_given a files = a.fitting files.plan files.mesh
 
 -- what files give: a task, or the refusal that stands
-abbrev pub given : Asking → Files → Result Task Refusal
+abbrev pub given : Asking → AskedFiles → Result Task Refusal
 given a files = fitting_given a files >>= where_even
 
 abbrev pub subject_of : Task → Subject
@@ -108,14 +108,14 @@ pub record HasAnswered (c : Call) (text : List ℕ) : Type 0 where
   pub flushed : AreFlushed c.written_after c.flushed
 
 -- the whole text of the task
-pub record IsDone (a : Asking) (c : Call) (files : Files) (added : List Round) : Type 0 where
+pub record IsDone (a : Asking) (c : Call) (files : AskedFiles) (added : List Round) : Type 0 where
   pub task : Task
   pub asked : given a files ≡ Ok task
   pub rounds : AreAllRounds (fitting_given a files) added
   pub answered : HasAnswered c (whole_text (subject_of task) added)
 
 -- the line of a refusal of this status
-pub record IsRefused (a : Asking) (c : Call) (files : Files) (added : List Round) : Type 0 where
+pub record IsRefused (a : Asking) (c : Call) (files : AskedFiles) (added : List Round) : Type 0 where
   pub refusal : Refusal
   pub refused : given a files ≡ Err refusal
   pub status : refusal.status ≡ c.status
@@ -137,22 +137,22 @@ pub record IsUnread (a : Asking) (c : Call) (added : List Round) : Type 0 where
 
 -- What may have been begun: the line of the refusal that stands; the line for a file that could not be read; or as much of
 -- the text as the rounds that were kept make known.
-pub data MayBegin (a : Asking) (c : Call) (files : Files) (added : List Round) : List ℕ → Type 0 where
+pub data MayBegin (a : Asking) (c : Call) (files : AskedFiles) (added : List Round) : List ℕ → Type 0 where
   refusing : (refusal : Refusal) → given a files ≡ Err refusal → MayBegin a c files added refusal.text
   unread : (name : List ℕ) → HasFailed a c name → MayBegin a c files added (read_refused name)
   telling : (task : Task) (text : List ℕ) → given a files ≡ Ok task → known_text (subject_of task) added ≡ Some text → MayBegin a c files added text
 
 -- nothing has been written, or a part, from its beginning, of what may have been begun
-abbrev pub WritesPart : Asking → Call → Files → List Round → Type 0
+abbrev pub WritesPart : Asking → Call → AskedFiles → List Round → Type 0
 WritesPart a c files added = (c.written_after ≡ c.written_before) ⊎ ((text : List ℕ) × MayBegin a c files added text × AppendsPart c.written_before c.written_after text)
 
 -- the sink has failed
-pub record IsUnwritten (a : Asking) (c : Call) (files : Files) (added : List Round) : Type 0 where
+pub record IsUnwritten (a : Asking) (c : Call) (files : AskedFiles) (added : List Round) : Type 0 where
   pub rose : Rises c.sink_before c.sink_after
   pub part : WritesPart a c files added
 
 -- the status has its cause
-abbrev pub HasCause : Asking → Call → Files → List Round → Status → Type 0
+abbrev pub HasCause : Asking → Call → AskedFiles → List Round → Status → Type 0
 HasCause a c files added Done = IsDone a c files added
 HasCause a c files added Words = IsRefused a c files added
 HasCause a c files added Plan = IsRefused a c files added
@@ -184,7 +184,7 @@ status_given (Err refusal) = refusal.status
 -- of those that are due; the status has its cause; and where the files are told and neither the shelf nor the sink has
 -- failed, it is the status that the files give, or NoMemory.
 pub record Headline (a : Asking) (c : Call) : Type 0 where
-  pub files : Files
+  pub files : AskedFiles
   pub agree : AreFiles a c.file files
   pub added : List Round
   pub kept : c.kept_after ≡ c.kept_before ++ added

@@ -9,6 +9,7 @@ ghost use Rattle.mesh_defs.specs.declared.Poly.{Poly};
 ghost use Rattle.mesh_defs.specs.Orientation.{act};
 ghost use Rattle.mesh_defs.specs.Mesh.{Mesh, Cell, placed_cells};
 ghost use Rattle.mesh_defs.specs.Points.{Point, Sight, point_on, shows, sights, key, arrangement};
+ghost use Rattle.mesh_defs.specs.RightMesh.{UsesVertices};
 ghost use Rattle.mesh_defs.specs.Diagram.{seen_under, chart, strata};
 
 /// The key of a face or an edge is the least key under which a cell sees it.
@@ -23,5 +24,5 @@ pub fn orientation_carries_arrangement()
 
 /// All cells together contain every point of a mesh whose vertices each stand in some cell.
 pub fn all_cells_have_every_point()
-    ensures { (m : Mesh) → ((v : ℕ) → v < length m.at → list_any (λ (cell : Cell). list_any (λ w. w == v) cell.vertices) m.cells ≡ true) → chart m (placed_cells m) ≡ strata m }
+    ensures { (m : Mesh) → UsesVertices m → chart m (placed_cells m) ≡ strata m }
 {}
