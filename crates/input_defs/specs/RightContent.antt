@@ -51,8 +51,8 @@ pub record IsRightElement (known : List ℕ) (element : Element) : Type 0 where
   pub kind : is_some (poly_of_type element.kind) ≡ true
   pub physical : IsSigned element.physical
   pub corners : length element.nodes ≡ corners_of_type element.kind
-  pub known : AllByRecursion (IsKnown known) element.nodes
-  pub different : NumbersDiffer element.nodes
+  pub nodes_known : AllByRecursion (IsKnown known) element.nodes
+  pub nodes_differ : NumbersDiffer element.nodes
 
 pub record IsRightName (name : Name) : Type 0 where
   pub dim : IsUnsigned name.dim
