@@ -8,5 +8,8 @@ pub mod LocalFiles
 pub mod LocalLines
 pub mod LocalBytes
 pub mod Sets
+pub mod Yields
+pub mod RightNumbers
+pub mod RightSections
 pub mod RightFiles
 pub mod PlainText

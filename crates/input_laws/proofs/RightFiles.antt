@@ -1,118 +1,122 @@
--- In a right file every element has nodes of the file.
-use Rattle.std.proofs.Common.{◌≡◌, ℕ, zero, suc, Bool, true, false, cond, not, List, [], ◌∷◌, map, get_or, pos, Option, Some, None, Ok, Err, refl, sym, ap, ◌∙◌, subst, true≢false}
-use Rattle.std.specs.Prelude.{Result, is_some, is_none, unwrap_or, length}
-use Rattle.std.specs.List.{AllByRecursion}
+-- What was read of a file is right at each header line, and so its content is.
+use Rattle.std.proofs.Common.{◌≡◌, ◌≤◌, ◌⊎◌, inl, inr, ℕ, Bool, true, false, cond, List, [], ◌∷◌, ◌++◌, map, length, length-append, Option, Some, None, Ok, Err, refl, sym, ap, ◌∙◌, subst, arith}
+use Rattle.std.specs.Prelude.{Result, is_some, unwrap_or}
+use Rattle.std.specs.List.{AllByRecursion, IsDistinct}
+use Rattle.std.proofs.lemmas.Bool.{leb-false}
+use Rattle.plain_lists.specs.Lists.{differ_as_sets}
+use Rattle.plain_lists.proofs.Each.{all_weaker, all_append}
+use Rattle.mesh_defs.specs.declared.Place.{Place}
 use Rattle.mesh_defs.specs.declared.Place.TheVariants as place
-use Rattle.mesh_defs.specs.Mesh.{Mesh, Cell}
-use Rattle.scan_defs.specs.declared.NumberFault.{NumberFault}
+use Rattle.mesh_defs.specs.Mesh.{Mesh, Cell, Name, Row, Section}
 use Rattle.scan_defs.specs.Lines.{line_number}
 use Rattle.scan_defs.specs.Items.{items}
-use Rattle.scan_defs.specs.Numbers.{uint_of}
 use Rattle.input_defs.specs.Content.{Node, Element, Content}
-use Rattle.input_defs.specs.declared.What.TheVariants as what
+use Rattle.input_defs.specs.declared.DataFault.{DataFault}
+use Rattle.input_defs.specs.declared.DataFault.TheVariants as data_fault
 use Rattle.input_defs.specs.declared.MshFault.{MshFault}
-use Rattle.input_defs.specs.declared.MshFault.TheVariants.{ElementType, UnknownNode, RepeatedNode, BadCount, Unclosed, Header}
-use Rattle.input_defs.specs.Causes.{map_ok, unless, ok_where}
-use Rattle.input_defs.specs.Bodies.{Lexeme, Faults, Reader, uint, int, give, ◌>>=◌, read_on, many, with_rest, number_where, tested, whole, nothing_left}
-use Rattle.input_defs.specs.Sections.{has_number, faults_of, count, poly_of_type, corners_of_type, corners_after, element, elements}
-use Rattle.input_defs.specs.Files.{Block, blocks_of, Known, Format, Names, Nodes, Elements, Data, known, Parts, nothing, causes, misplaced, unfinished, file_numbers, with_section, ending_line, cut_short, closes, Expected, Opening, Closing, Skipping, is_wrong_header, begun, with_block, content_of, finished, said, content}
-use Rattle.input_laws.proofs.Causes.{unless-ok, first_cause-none, bind-ok, bind}
-use Rattle.plain_lists.specs.Lists.{differ_as_sets}
+use Rattle.input_defs.specs.declared.MshFault.TheVariants.{BadCount, Unclosed, Header}
+use Rattle.input_defs.specs.Causes.{map_ok, unless}
+use Rattle.input_defs.specs.Bodies.{Lexeme}
+use Rattle.input_defs.specs.Sections.{has_number, faults_of, names, nodes, elements}
+use Rattle.input_defs.specs.DataSections.{faults_at, section, section_of}
+use Rattle.input_defs.specs.Files.{Block, blocks_of, Known, Format, Names, Nodes, Elements, Data, known, Parts, nothing, causes, misplaced, unfinished, file_numbers, of_data, with_section, ending_line, cut_short, closes, Expected, Opening, Closing, Skipping, is_wrong_header, begun, with_block, content_of, finished, said, content}
+use Rattle.input_defs.specs.RightContent.{node_numbers, numbers_on, IsKnown, IsRightElement, IsRightName, IsRightDataRow, IsRightField, IsRight}
 use Rattle.input_defs.specs.Meshes.{accepted}
+use Rattle.input_laws.proofs.Causes.{unless-ok, first_cause-none, bind-ok, bind}
 use Rattle.input_laws.proofs.Labels.{cells-made}
 use Rattle.input_laws.proofs.Sets.{AreKnown, numbers_of, cells-sets}
+use Rattle.input_laws.proofs.Yields.{ok, ok-same, whole-yields}
+use Rattle.input_laws.proofs.RightSections.{FewOf, AreRightNodes, IsDataOn, names-yield, nodes-yield, elements-yield, section-yields}
 
-abbrev ok : {A E : Type 0} → A → Result A E
-ok x = Ok x
+-- ---- right contents with one part more
 
-abbrev the_number : Result ℕ MshFault → Result ℕ MshFault
-the_number o = o
+-- what stands in no list of numbers stands in every other one
+known-more : (numbers : List ℕ) (n : ℕ) → IsKnown [] n → IsKnown numbers n
+known-more numbers n h = absurd (cc h)
 
--- the same answer
-ok-same : {A E : Type 0} {x y : A} → ok {E = E} x ≡ ok y → x ≡ y
-ok-same h = cc h
+row-more : (numbers : List ℕ) (comps : ℕ) (r : Row) → IsRightDataRow [] comps r → IsRightDataRow numbers comps r
+row-more numbers comps r h = record { number = known-more numbers r.number h.number; values = h.values; in_range = h.in_range }
 
--- ---- what readers yield
+element-more : (numbers : List ℕ) (e : Element) → IsRightElement [] e → IsRightElement numbers e
+element-more numbers e h = record { number = h.number; kind = h.kind; physical = h.physical; corners = h.corners; nodes_known = all_weaker (IsKnown []) (IsKnown numbers) (known-more numbers) e.nodes h.nodes_known; nodes_differ = h.nodes_differ }
 
--- what is read has the property
-pub Yields : {E A : Type 0} → (A → Type 0) → Reader E A → Type 0
-Yields {E} {A} P r = (f : Faults E) (body rest : List Lexeme) (x : A) → r f body ≡ Ok (x, rest) → P x
-
-yields-anything : {E A : Type 0} (r : Reader E A) → Yields (λ x. Unit {0}) r
-unfolding Yields
-yields-anything r f body rest x h = tt
-
-give-yields : (E : Type 0) {A : Type 0} (P : A → Type 0) (x : A) → P x → Yields P (give {E = E} x)
-unfolding Yields
-give-yields E {A} P x p f body rest y h = let same : x ≡ y = ap (λ (g : A × List Lexeme). g.0) (ok-same h) in subst P same p
-
-bind-yields : {E A B : Type 0} (Q : A → Type 0) (P : B → Type 0) (r : Reader E A) (k : A → Reader E B) → Yields Q r → ((x : A) → Q x → Yields P (k x)) → Yields P (r >>= k)
-unfolding Yields
-bind-yields {E} {A} {B} Q P r k first second f body rest y h = go (r f body) refl h
+-- data stays right where the numbers do, or where there were none
+field-more : (before after : Content) (f : Section) → ((on : Place) → (numbers_on before on ≡ []) ⊎ (numbers_on before on ≡ numbers_on after on)) → IsRightField before f → IsRightField after f
+field-more before after f more h = record { comps = h.comps; rows = go (more f.on) }
   where
-    go : (o : Result (A × List Lexeme) E) → r f body ≡ o → read_on k f o ≡ Ok (y, rest) → P y
-    go (Ok got) is t = second got.0 (first f body got.1 got.0 is) f got.1 rest y t
-    go (Err e) is t = absurd (cc t)
+    go : (numbers_on before f.on ≡ []) ⊎ (numbers_on before f.on ≡ numbers_on after f.on) → AllByRecursion (IsRightDataRow (numbers_on after f.on) f.comps) f.rows
+    go (inl none) = all_weaker (IsRightDataRow [] f.comps) (IsRightDataRow (numbers_on after f.on) f.comps) (row-more (numbers_on after f.on) f.comps) f.rows (subst (λ numbers. AllByRecursion (IsRightDataRow numbers f.comps) f.rows) none h.rows)
+    go (inr same) = subst (λ numbers. AllByRecursion (IsRightDataRow numbers f.comps) f.rows) same h.rows
 
-many-yields : {E A : Type 0} (P : A → Type 0) (r : Reader E A) (n : ℕ) → Yields P r → Yields (AllByRecursion P) (many n r)
-many-yields {E} P r zero each = give-yields E (AllByRecursion P) [] tt
-many-yields {E} P r (suc n) each = bind-yields P (AllByRecursion P) r (λ x. many n r >>= (λ xs. give {E = E} (x ∷ xs))) each (λ x p.
-    bind-yields (AllByRecursion P) (AllByRecursion P) (many n r) (λ xs. give {E = E} (x ∷ xs)) (many-yields P r n each) (λ xs q. give-yields E (AllByRecursion P) (x ∷ xs) (p, q)))
-
-tested-yields : {E A B : Type 0} (P : B → Type 0) (number_of : List ℕ → Result A NumberFault) (test : ℕ → A → Result B E) → ((l : ℕ) (x : A) (y : B) → test l x ≡ Ok y → P y) → Yields P (tested number_of test)
-unfolding Yields
-tested-yields P number_of test passes f [] rest y h = absurd (cc h)
-tested-yields {E} {A} {B} P number_of test passes f (w ∷ ws) rest y h = go (number_of w.text) h
+with-names : (c : Content) (ns : List Name) → FewOf 1024 IsRightName ns → IsRight c → IsRight (record c { names = ns })
+with-names c ns good right = record {
+  nodes = right.nodes;
+  numbers_differ = right.numbers_differ;
+  elements = right.elements;
+  names = good.1;
+  fields = all_weaker (IsRightField c) (IsRightField (record c { names = ns })) (λ f. field-more c (record c { names = ns }) f same) c.fields right.fields;
+  limits = record { nodes = right.limits.nodes; elements = right.limits.elements; names = good.0; fields = right.limits.fields };
+}
   where
-    on : (l : ℕ) (x : A) (o : Result B E) → test l x ≡ o → with_rest ws o ≡ Ok (y, rest) → P y
-    on l x (Ok z) is t = let same : z ≡ y = ap (λ (g : B × List Lexeme). g.0) (ok-same t) in passes l x y (is ∙ ap Ok same)
-    on l x (Err e) is t = absurd (cc t)
+    same : (on : Place) → (numbers_on c on ≡ []) ⊎ (numbers_on c on ≡ numbers_on (record c { names = ns }) on)
+    same place.Node = inr refl
+    same place.Element = inr refl
 
-    go : (o : Result A NumberFault) → with_rest ws (number_where f w.line test o) ≡ Ok (y, rest) → P y
-    go (Ok x) t = on w.line x (test w.line x) refl t
-    go (Err n) t = absurd (cc t)
-
-whole-yields : {E A : Type 0} (P : A → Type 0) (extra : ℕ → E) (r : Reader E A) (f : Faults E) (body : List Lexeme) (x : A) → Yields P r → whole extra r f body ≡ Ok x → P x
-unfolding Yields
-whole-yields {E} {A} P extra r f body x each h = go (r f body) refl h
+with-nodes : (c : Content) (ns : List Node) → c.nodes ≡ [] → AreRightNodes ns → IsRight c → IsRight (record c { nodes = ns })
+with-nodes c ns fresh good right = record {
+  nodes = good.right;
+  numbers_differ = good.differ;
+  elements = all_weaker (IsRightElement (node_numbers c)) (IsRightElement (numbers_of ns)) (λ e h. element-more (numbers_of ns) e (subst (λ numbers. IsRightElement numbers e) none h)) c.elements right.elements;
+  names = right.names;
+  fields = all_weaker (IsRightField c) (IsRightField (record c { nodes = ns })) (λ f. field-more c (record c { nodes = ns }) f same) c.fields right.fields;
+  limits = record { nodes = good.few; elements = right.limits.elements; names = right.limits.names; fields = right.limits.fields };
+}
   where
-    go : (o : Result (A × List Lexeme) E) → r f body ≡ o → nothing_left extra o ≡ Ok x → P x
-    go (Ok (y, [])) is t = subst P (ok-same t) (each f body [] y is)
-    go (Ok (y, w ∷ ws)) is t = absurd (cc t)
-    go (Err e) is t = absurd (cc t)
+    none : node_numbers c ≡ []
+    none = ap (map (λ (node : Node). node.number)) fresh
 
--- ---- elements
+    same : (on : Place) → (numbers_on c on ≡ []) ⊎ (numbers_on c on ≡ numbers_on (record c { nodes = ns }) on)
+    same place.Node = inl none
+    same place.Element = inr refl
 
-corner-known : (nodes earlier : List ℕ) (l n m : ℕ) → cond (has_number nodes n) (ok_where (not (has_number earlier n)) n (RepeatedNode l n)) (Err (UnknownNode l n)) ≡ Ok m → has_number nodes m ≡ true
-corner-known nodes earlier l n m h = go (has_number nodes n) (not (has_number earlier n)) refl h
+with-elements : (c : Content) (es : List Element) → c.elements ≡ [] → FewOf 1000000 (IsRightElement (node_numbers c)) es → IsRight c → IsRight (record c { elements = es })
+with-elements c es fresh good right = record {
+  nodes = right.nodes;
+  numbers_differ = right.numbers_differ;
+  elements = good.1;
+  names = right.names;
+  fields = all_weaker (IsRightField c) (IsRightField (record c { elements = es })) (λ f. field-more c (record c { elements = es }) f same) c.fields right.fields;
+  limits = record { nodes = right.limits.nodes; elements = good.0; names = right.limits.names; fields = right.limits.fields };
+}
   where
-    go : (a b : Bool) → has_number nodes n ≡ a → cond a (cond b (Ok n) (Err (RepeatedNode l n))) (Err (UnknownNode l n)) ≡ the_number (Ok m) → has_number nodes m ≡ true
-    go true true is t = sym (ap (has_number nodes) (ok-same t)) ∙ is
-    go true false is t = absurd (cc t)
-    go false b is t = absurd (cc t)
+    same : (on : Place) → (numbers_on c on ≡ []) ⊎ (numbers_on c on ≡ numbers_on (record c { elements = es }) on)
+    same place.Node = inr refl
+    same place.Element = inl (ap (map (λ (element : Element). element.number)) fresh)
 
-corners-known : (nodes earlier : List ℕ) (n : ℕ) → Yields (AllByRecursion (λ v. has_number nodes v ≡ true)) (corners_after nodes earlier n)
-corners-known nodes earlier zero = give-yields MshFault (AllByRecursion (λ v. has_number nodes v ≡ true)) [] tt
-corners-known nodes earlier (suc n) = bind-yields (λ v. has_number nodes v ≡ true) (AllByRecursion (λ v. has_number nodes v ≡ true)) _ _
-    (tested-yields (λ v. has_number nodes v ≡ true) uint_of (λ line m. cond (has_number nodes m) (ok_where (not (has_number earlier m)) m (RepeatedNode line m)) (Err (UnknownNode line m))) (corner-known nodes earlier)) (λ first p.
-    bind-yields (AllByRecursion (λ v. has_number nodes v ≡ true)) (AllByRecursion (λ v. has_number nodes v ≡ true)) _ _ (corners-known nodes (first ∷ earlier) n) (λ others q.
-    give-yields MshFault (AllByRecursion (λ v. has_number nodes v ≡ true)) (first ∷ others) (p, q)))
+with-field : (c : Content) (f : Section) → length c.fields ≤ 15 → IsRightField c f → IsRight c → IsRight (record c { fields = c.fields ++ f ∷ [] })
+with-field c f few good right = record {
+  nodes = right.nodes;
+  numbers_differ = right.numbers_differ;
+  elements = right.elements;
+  names = right.names;
+  fields = all_weaker (IsRightField c) (IsRightField next) (λ g. field-more c next g same) (c.fields ++ f ∷ []) (all_append (IsRightField c) c.fields (f ∷ []) right.fields (good, tt));
+  limits = record { nodes = right.limits.nodes; elements = right.limits.elements; names = right.limits.names; fields = omega (arith, few, length-append c.fields (f ∷ [])) };
+}
+  where
+    next : Content
+    next = record c { fields = c.fields ++ f ∷ [] }
 
-HasKnown : List ℕ → Element → Type 0
-HasKnown nodes e = AllByRecursion (λ v. has_number nodes v ≡ true) e.nodes
+    same : (on : Place) → (numbers_on c on ≡ []) ⊎ (numbers_on c on ≡ numbers_on next on)
+    same place.Node = inr refl
+    same place.Element = inr refl
 
-element-known : (nodes : List ℕ) → Yields (HasKnown nodes) (element nodes)
-unfolding element HasKnown
-element-known nodes = bind-yields (λ x. Unit {0}) (HasKnown nodes) uint _ (yields-anything uint) (λ n a.
-    bind-yields (λ x. Unit {0}) (HasKnown nodes) (tested uint_of (λ line k. ok_where (is_some (poly_of_type k)) k (ElementType line k))) _ (yields-anything _) (λ kind b.
-    bind-yields (λ x. Unit {0}) (HasKnown nodes) uint _ (yields-anything uint) (λ tag_count d.
-    bind-yields (λ x. Unit {0}) (HasKnown nodes) (many tag_count int) _ (yields-anything _) (λ tags e.
-    bind-yields (AllByRecursion (λ v. has_number nodes v ≡ true)) (HasKnown nodes) (corners_after nodes [] (corners_of_type kind)) _ (corners-known nodes [] (corners_of_type kind)) (λ corners g.
-    give-yields MshFault (HasKnown nodes) (record { number = n; kind = kind; physical = get_or tags 0 (pos 0); nodes = corners }) g)))))
-
-elements-known : (nodes : List ℕ) → Yields (AreKnown nodes) (elements nodes)
-unfolding elements HasKnown
-elements-known nodes = bind-yields (λ x. Unit {0}) (AreKnown nodes) (count 1000000 what.Elements) _ (yields-anything _) (λ n a. many-yields (HasKnown nodes) (element nodes) n (element-known nodes))
+-- data of this place is right over the numbers there
+data-field : (parts : Parts) (on : Place) (f : Section) → IsDataOn on (file_numbers parts on) f → IsRightField (content_of parts) f
+data-field parts on f h = record { comps = h.comps; rows = subst (λ numbers. AllByRecursion (IsRightDataRow numbers f.comps) f.rows) (same on ∙ ap (numbers_on (content_of parts)) (sym h.on_place)) h.rows }
+  where
+    same : (on : Place) → file_numbers parts on ≡ numbers_on (content_of parts) on
+    same place.Node = refl
+    same place.Element = refl
 
 -- ---- what was read
 
@@ -120,42 +124,46 @@ map_ok-ok : {A B E : Type 0} (f : A → B) (o : Result A E) (y : B) → map_ok f
 map_ok-ok f (Ok x) y h = (x, refl, cc h)
 map_ok-ok f (Err e) y h = absurd (cc h)
 
-some-of : {A : Type 0} (o : Option A) → is_none o ≡ false → (x : A) × (o ≡ Some x)
-some-of None h = absurd (cc h)
-some-of (Some x) h = (x, refl)
+of_data-ok : {A : Type 0} (ended : MshFault) (o : Result A DataFault) (x : A) → of_data ended o ≡ Ok x → o ≡ Ok x
+of_data-ok ended (Ok y) x h = ap Ok (ok-same h)
+of_data-ok ended (Err (data_fault.BadNumber line)) x h = absurd (cc h)
+of_data-ok ended (Err (data_fault.BadCount line)) x h = absurd (cc h)
+of_data-ok ended (Err (data_fault.BadName line)) x h = absurd (cc h)
+of_data-ok ended (Err (data_fault.Components line got)) x h = absurd (cc h)
+of_data-ok ended (Err (data_fault.UnknownNumber line number)) x h = absurd (cc h)
+of_data-ok ended (Err (data_fault.OutOfRange line)) x h = absurd (cc h)
+of_data-ok ended (Err (data_fault.Ended line)) x h = absurd (cc h)
+of_data-ok ended (Err data_fault.NoMemory) x h = absurd (cc h)
 
--- elements were read after nodes, and have nodes of these
+none-of : {A : Type 0} (o : Option (List A)) → is_some o ≡ false → unwrap_or o [] ≡ []
+none-of None h = refl
+none-of (Some x) h = absurd (cc h)
+
+-- what was read up to here is right
 AreRight : Parts → Type 0
-AreRight parts = (es : List Element) → parts.elements ≡ Some es → (ns : List Node) × (parts.nodes ≡ Some ns) × AreKnown (numbers_of ns) es
-
--- parts with the same nodes and elements
-right-same : (parts with : Parts) → with.nodes ≡ parts.nodes → with.elements ≡ parts.elements → AreRight parts → AreRight with
-unfolding AreRight
-right-same parts with nodes elements right es h = let r = right es (sym elements ∙ h) in (r.0, nodes ∙ r.1, r.2)
+AreRight parts = IsRight (content_of parts)
 
 no_causes : (parts : Parts) (line : ℕ) (k : Known) → misplaced parts line k ≡ None → AllByRecursion (λ (c : Bool × MshFault). c.0 ≡ false) (causes parts line k)
 unfolding misplaced
 no_causes parts line k h = first_cause-none (causes parts line k) h
 
-right-nodes : (parts : Parts) (ns : List Node) → is_some parts.nodes ≡ false → AreRight parts → AreRight (record parts { nodes = Some ns })
-unfolding AreRight
-right-nodes parts ns fresh right es h = let r = right es h in absurd (true≢false (sym (ap is_some r.1) ∙ fresh))
-
-right-elements : (parts : Parts) (es : List Element) → is_none parts.nodes ≡ false → AreKnown (file_numbers parts place.Node) es → AreRight (record parts { elements = Some es })
-unfolding AreRight
-right-elements parts es there good fs h =
-    let ns = some-of parts.nodes there in
-    let same : es ≡ fs = cc h in
-    (ns.0, ns.1, subst (AreKnown (numbers_of ns.0)) same (subst (λ (o : Option (List Node)). AreKnown (numbers_of (unwrap_or o [])) es) ns.1 good))
+few-fields : (parts : Parts) (line : ℕ) (on : Place) → misplaced parts line (Data on) ≡ None → length parts.fields ≤ 15
+few-fields parts line place.Node h = let most = leb-false _ _ (no_causes parts line (Data place.Node) h).1.1.0 in omega arith
+few-fields parts line place.Element h = let most = leb-false _ _ (no_causes parts line (Data place.Element) h).1.1.0 in omega arith
 
 with_section-right : (end line : ℕ) (ended : MshFault) (parts with : Parts) (k : Known) (body : List Lexeme) → misplaced parts line k ≡ None → AreRight parts → with_section end ended parts k body ≡ Ok with → AreRight with
-unfolding with_section
-with_section-right end line ended parts with Format body fits right h = let r = map_ok-ok _ _ with h in right-same parts with (ap (λ (p : Parts). p.nodes) (sym r.2)) (ap (λ (p : Parts). p.elements) (sym r.2)) right
-with_section-right end line ended parts with Names body fits right h = let r = map_ok-ok _ _ with h in right-same parts with (ap (λ (p : Parts). p.nodes) (sym r.2)) (ap (λ (p : Parts). p.elements) (sym r.2)) right
-with_section-right end line ended parts with Nodes body fits right h = let r = map_ok-ok _ _ with h in subst AreRight r.2 (right-nodes parts r.0 (no_causes parts line Nodes fits).1.0 right)
+unfolding with_section section_of AreRight
+with_section-right end line ended parts with Format body fits right h = let r = map_ok-ok _ _ with h in subst (λ (p : Parts). IsRight (content_of p)) r.2 right
+with_section-right end line ended parts with Names body fits right h = let r = map_ok-ok _ _ with h in
+    subst (λ (p : Parts). IsRight (content_of p)) r.2 (with-names (content_of parts) r.0 (whole-yields (FewOf 1024 IsRightName) BadCount names (faults_of ended) body r.0 names-yield r.1) right)
+with_section-right end line ended parts with Nodes body fits right h = let r = map_ok-ok _ _ with h in
+    subst (λ (p : Parts). IsRight (content_of p)) r.2 (with-nodes (content_of parts) r.0 (none-of parts.nodes (no_causes parts line Nodes fits).1.0) (whole-yields AreRightNodes BadCount nodes (faults_of ended) body r.0 nodes-yield r.1) right)
 with_section-right end line ended parts with Elements body fits right h = let r = map_ok-ok _ _ with h in
-    subst AreRight r.2 (right-elements parts r.0 (no_causes parts line Elements fits).1.0 (whole-yields (AreKnown (file_numbers parts place.Node)) BadCount (elements (file_numbers parts place.Node)) (faults_of ended) body r.0 (elements-known (file_numbers parts place.Node)) r.1))
-with_section-right end line ended parts with (Data on) body fits right h = let r = map_ok-ok _ _ with h in right-same parts with (ap (λ (p : Parts). p.nodes) (sym r.2)) (ap (λ (p : Parts). p.elements) (sym r.2)) right
+    subst (λ (p : Parts). IsRight (content_of p)) r.2 (with-elements (content_of parts) r.0 (none-of parts.elements (no_causes parts line Elements fits).1.1.0)
+    (whole-yields (FewOf 1000000 (IsRightElement (file_numbers parts place.Node))) BadCount (elements (file_numbers parts place.Node)) (faults_of ended) body r.0 (elements-yield (file_numbers parts place.Node)) r.1) right)
+with_section-right end line ended parts with (Data on) body fits right h = let r = map_ok-ok _ _ with h in
+    subst (λ (p : Parts). IsRight (content_of p)) r.2 (with-field (content_of parts) r.0 (few-fields parts line on fits)
+    (data-field parts on r.0 (whole-yields (IsDataOn on (file_numbers parts on)) data_fault.BadCount (section on (file_numbers parts on)) (faults_at end) body r.0 (section-yields on (file_numbers parts on)) (of_data-ok ended _ r.0 r.1))) right)
 
 begun-right : (end : ℕ) (parts : Parts) (b : Block) (bs : List Block) (k : Option Known) (next : Expected × Parts) → AreRight parts → begun end parts b bs k ≡ Ok next → AreRight next.1
 begun-right end parts b bs (Some k) next right h =
@@ -180,30 +188,31 @@ step-right end (Closing name) parts b bs next right h = go (closes name b) h
     go false t = absurd (cc t)
 step-right end (Skipping name) parts b bs next right h = subst (λ (n : Expected × Parts). AreRight n.1) (ok-same h) right
 
-content-right : (parts : Parts) → AreRight parts → AreKnown (numbers_of (content_of parts).nodes) (content_of parts).elements
+finished-right : (end : ℕ) (due : Expected) (parts : Parts) (c : Content) → AreRight parts → finished end due parts ≡ Ok c → IsRight c
 unfolding AreRight
-content-right parts right = go parts.elements refl
-  where
-    go : (o : Option (List Element)) → parts.elements ≡ o → AreKnown (numbers_of (unwrap_or parts.nodes [])) (unwrap_or o [])
-    go None h = tt
-    go (Some es) h = let r = right es h in subst (λ (n : Option (List Node)). AreKnown (numbers_of (unwrap_or n [])) es) (sym r.1) r.2
-
-finished-right : (end : ℕ) (due : Expected) (parts : Parts) (c : Content) → AreRight parts → finished end due parts ≡ Ok c → AreKnown (numbers_of c.nodes) c.elements
-finished-right end Opening parts c right h = subst (λ (d : Content). AreKnown (numbers_of d.nodes) d.elements) (unless-ok (unfinished parts end) (content_of parts) c h).1 (content-right parts right)
+finished-right end Opening parts c right h = subst IsRight (unless-ok (unfinished parts end) (content_of parts) c h).1 right
 finished-right end (Closing name) parts c right h = absurd (cc h)
 finished-right end (Skipping name) parts c right h = absurd (cc h)
 
-said-right : (end : ℕ) (due : Expected) (parts : Parts) (bs : List Block) (c : Content) → AreRight parts → said end due parts bs ≡ Ok c → AreKnown (numbers_of c.nodes) c.elements
+said-right : (end : ℕ) (due : Expected) (parts : Parts) (bs : List Block) (c : Content) → AreRight parts → said end due parts bs ≡ Ok c → IsRight c
 unfolding said
 said-right end due parts [] c right h = finished-right end due parts c right h
 said-right end due parts (b ∷ bs) c right h =
     let first = bind-ok (with_block end due parts b bs) (λ next. said end next.0 next.1 bs) c h in
     said-right end first.0.0 first.0.1 bs c (step-right end due parts b bs first.0 right first.1) first.2
 
--- every corner of an element of a right file is the number of one of its nodes
+nothing-right : AreRight nothing
+unfolding AreRight IsDistinct
+nothing-right = record { nodes = tt; numbers_differ = tt; elements = tt; names = tt; fields = tt; limits = record { nodes = omega arith; elements = omega arith; names = omega arith; fields = omega arith } }
+
+-- the content of a right file is right
+pub content-right : (bytes : List ℕ) (c : Content) → content bytes ≡ Ok c → IsRight c
+unfolding content
+content-right bytes c h = said-right (line_number bytes (length bytes)) Opening nothing (blocks_of bytes (items bytes)) c nothing-right h
+
+-- every corner of an element of it is the number of one of its nodes
 pub content-known : (bytes : List ℕ) (c : Content) → content bytes ≡ Ok c → AreKnown (numbers_of c.nodes) c.elements
-unfolding content AreRight
-content-known bytes c h = said-right (line_number bytes (length bytes)) Opening nothing (blocks_of bytes (items bytes)) c (λ es e. absurd (cc e)) h
+content-known bytes c h = all_weaker (IsRightElement (numbers_of c.nodes)) (λ (e : Element). AllByRecursion (λ v. has_number (numbers_of c.nodes) v ≡ true) e.nodes) (λ e right. right.nodes_known) c.elements (content-right bytes c h).elements
 
 -- so the cells of its mesh have different sets of vertices
 pub sets-apart : (bytes : List ℕ) (c : Content) (m : Mesh) → content bytes ≡ Ok c → accepted c ≡ Ok m → differ_as_sets (map (λ (cell : Cell). cell.vertices) m.cells) ≡ true

@@ -12,6 +12,7 @@ ghost use Rattle.text_defs.specs.Text.{plain_text};
 ghost use Rattle.input_defs.specs.Content.{Element, Content};
 ghost use Rattle.input_defs.specs.declared.MshFault.{MshFault};
 ghost use Rattle.input_defs.specs.Files.{content};
+ghost use Rattle.input_defs.specs.RightContent.{IsRight};
 ghost use Rattle.input_defs.specs.Further.{full_text};
 ghost use Rattle.input_defs.specs.Meshes.{accepted, cell_elements, cell_of, vertex_nodes, dim, same_place, is_point_of};
 ghost use Rattle.input_defs.specs.Plans.{Plan, Spread, Part, plan_of, misfit, rank_by};
@@ -35,6 +36,12 @@ pub fn cells_are_first_of_their_sets()
     ensures first { (c : Content) → AllByRecursion (λ (e : Element). find (same_place e) c.elements ≡ Some e) (cell_elements c) }
     ensures dims { (c : Content) (m : Mesh) → accepted c ≡ Ok m → AllByRecursion (λ (e : Element). dim e ≡ m.dim) (cell_elements c) }
     ensures different { (c : Content) → differ_in_place (cell_elements c) ≡ true }
+{}
+
+/// The content of a right file has what `IsRight` lists: numbers in range and known where they are named, node numbers that
+/// differ, as many corners as an element's type has, values for each component, and no more of anything than the limits allow.
+pub fn right_files_have_right_content()
+    ensures { (bytes : List ℕ) (c : Content) → content bytes ≡ Ok c → IsRight c }
 {}
 
 /// The cells of the mesh of a right file have different sets of vertices.
