@@ -10,3 +10,4 @@ pub mod RefusalRows
 pub mod TextRows
 pub mod AheadRows
 pub mod RightRows
+pub mod RightContentRows
