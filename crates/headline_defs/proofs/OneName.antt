@@ -3,7 +3,7 @@ use Rattle.std.proofs.Common.{◌≡◌, ℕ, List, Option, Some, sym, ◌∙◌
 use Rattle.cause_defs.specs.Told.{Told, untold, absent, told}
 use Rattle.std.proofs.Common.{Result}
 use Rattle.input_defs.specs.Refused.{Task, Refusal}
-use Rattle.headline_defs.specs.Headline.{AskedFiles, IsFileWhereTold, IsFileNamed, Asking, AreFiles, IsTold}
+use Rattle.headline_defs.specs.Headline.{AskedFiles, IsFileWhereTold, AreFiles, IsTold}
 
 -- two files that are what is told are one
 one-where_told : (t : Told (List ℕ)) (a b : Option (List ℕ)) → IsTold t → IsFileWhereTold t a → IsFileWhereTold t b → a ≡ b

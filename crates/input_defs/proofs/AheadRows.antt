@@ -12,7 +12,7 @@ use Rattle.input_defs.specs.Bodies.{lexeme_of}
 use Rattle.input_defs.specs.Sections.{format, name, names, node, nodes_after, nodes, element, elements}
 use Rattle.input_defs.specs.DataSections.{row, section, section_of}
 use Rattle.input_defs.specs.Files.{blocks_of, misplaced, unfinished, with_section, with_block, said, content}
-use Rattle.plain_lists.specs.Lists.{sorted, same_list}
+use Rattle.plain_lists.specs.Lists.{sorted}
 use Rattle.mesh_defs.specs.Orientation.{rotations, reflections, orientations, corners_under, act, relative}
 use Rattle.mesh_defs.specs.Points.{sights_of, first_sight, arrangement, contains}
 use Rattle.mesh_defs.specs.Diagram.{seen_under, twist_key}

@@ -1,10 +1,8 @@
 -- Worked rows: the steps of a plan on eight cells.
-use Rattle.std.proofs.Common.{◌≡◌, ℕ, List, [], ◌∷◌, map, refl}
+use Rattle.std.proofs.Common.{◌≡◌, ℕ, List, [], ◌∷◌, refl}
 use Rattle.std.specs.Prelude.{replicate}
-use Rattle.mesh_defs.specs.declared.Poly.TheVariants.{Triangle}
-use Rattle.mesh_defs.specs.Mesh.{Mesh}
-use Rattle.input_defs.specs.Plans.{Plan, Block, Stripe, Listed, Part, Layers, rank_by, showing, plain_plan}
-use Rattle.input_defs.specs.States.{State, assignment, states, first_ranks, count_parts}
+use Rattle.input_defs.specs.Plans.{Plan, Block, Stripe, Listed, Part, Layers, rank_by, plain_plan}
+use Rattle.input_defs.specs.States.{assignment, states, first_ranks, count_parts}
 use Rattle.plex_defs.proofs.Meshes.{strip}
 
 assignments : (assignment 3 8 Block ≡ 0 ∷ 0 ∷ 0 ∷ 1 ∷ 1 ∷ 1 ∷ 2 ∷ 2 ∷ []) × (assignment 3 8 Stripe ≡ 0 ∷ 1 ∷ 2 ∷ 0 ∷ 1 ∷ 2 ∷ 0 ∷ 1 ∷ []) × (assignment 3 3 (Listed (2 ∷ 0 ∷ 1 ∷ [])) ≡ 2 ∷ 0 ∷ 1 ∷ [])

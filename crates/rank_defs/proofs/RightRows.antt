@@ -1,22 +1,22 @@
 -- Worked rows: assignments of the rows are right; and what goes wrong where a condition on meshes or assignments is left out.
 use Rattle.std.proofs.Common.{◌≡◌, ℕ, ◌+◌, ◌*◌, ◌/◌, ◌^◌, ◌<◌, Bool, true, false, ◌&&◌, ◌==◌, nat_lt, nat_le, List, [], ◌∷◌, length, map, replicate, ℤ, pos, negsuc, refl}
 use Rattle.std.specs.Prelude.{flat_map}
-use Rattle.std.specs.List.{list_all, AllByRecursion}
+use Rattle.std.specs.List.{list_all}
 use Rattle.std.proofs.lemmas.Bool.{and_parts, eqb-true, ltb-true, leb-true}
-use Rattle.plain_lists.specs.Lists.{below, sorted}
+use Rattle.plain_lists.specs.Lists.{sorted}
 use Rattle.plain_lists.proofs.Each.{all_weaker, each_passes}
-use Rattle.mesh_defs.specs.declared.Poly.TheVariants.{Vertex, Segment, Triangle, Tet}
-use Rattle.mesh_defs.specs.declared.Place.TheVariants.{Node, Element}
+use Rattle.mesh_defs.specs.declared.Poly.TheVariants.{Vertex, Segment, Triangle}
+use Rattle.mesh_defs.specs.declared.Place.TheVariants.{Node}
 use Rattle.mesh_defs.specs.declared.ConeEntry.{ConeEntry}
 use Rattle.mesh_defs.specs.Orientation.{rotations, reflections, orientations, corners_under, act, relative}
-use Rattle.mesh_defs.specs.Mesh.{Mesh, Mark, Row, Section, placed_cells}
+use Rattle.mesh_defs.specs.Mesh.{Mesh, Mark, Row, placed_cells}
 use Rattle.mesh_defs.specs.Points.{Sight, point_on, sights_of, first_sight, arrangement, contains}
 use Rattle.mesh_defs.specs.Sights.{points_differ}
 use Rattle.mesh_defs.specs.Diagram.{Diagram, stratum, strata, chart, place_in, seen_under, entry, cone, diagram}
 use Rattle.plex_defs.specs.Labels.{mesh_label}
-use Rattle.plex_defs.specs.Fields.{row_values, data_words, dof_words, fields}
-use Rattle.rank_defs.specs.Ranks.{IsAssignment, IsRightAssignment, assigned, held_cells, held, ranks_at, owner, owned}
-use Rattle.rank_defs.specs.Spread.{LocalMesh, charts, point_forest, local_mesh, plain_dist, ScatterPart, scatter_part, plain_scatter, own_chart, SharedPart, shared_part, plain_shared}
+use Rattle.plex_defs.specs.Fields.{row_values, data_words, fields}
+use Rattle.rank_defs.specs.Ranks.{IsRightAssignment, assigned, held_cells, held, ranks_at, owner, owned}
+use Rattle.rank_defs.specs.Spread.{LocalMesh, charts, point_forest, local_mesh, plain_dist, scatter_part, plain_scatter, own_chart, shared_part, plain_shared}
 use Rattle.plex_defs.proofs.Meshes.{bare, two_triangles, strip}
 
 -- ---- a test of right assignments
