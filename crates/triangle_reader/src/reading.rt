@@ -10,6 +10,7 @@ use crate::distinct::have_distinct_nodes;
 use crate::fault::MshFault;
 use crate::parts::{elements_part, format_part, nodes_part};
 use crate::tokens::next_row;
+use plex_base::MAX_FILE_BYTES;
 use std::alloc::Global;
 
 /// What the file says, where it is one of triangles.
@@ -28,12 +29,12 @@ fn text_of(alloc: Global, bytes: &[u8]) -> Result<MshText, MshFault>
     Ok(MshText { nodes, elements })
 }
 
-/// Reads a mesh file of at most 268,435,456 bytes.
+/// Reads a mesh file. Condition: at most [`MAX_FILE_BYTES`].
 ///
 /// The bytes are a file in the MSH format 2.2 of the Gmsh manual, as text. An `Err` is `NotYet`
 /// where they are not of the form that is read so far, and `NoMemory` where memory ran out.
 pub fn read_msh(alloc: Global, bytes: &[u8]) -> Result<MshText, MshFault>
-    requires { length bytes.now ≤ 268435456 }
+    requires { length bytes.now ≤ MAX_FILE_BYTES }
     // What is read is what the file says.
     ensures content { IfOk result (λ text. triangles bytes.now ≡ Some text) }
     // A file is refused as not yet read only where it is not one of triangles.
