@@ -1,5 +1,5 @@
 -- Facts of tables, from a look at all their entries.
-use Rattle.std.proofs.Common.{◌≡◌, ℕ, ◌<◌, true, ltb, eqb, List, [], length, get_or}
+use Rattle.std.proofs.Common.{◌≡◌, ℕ, ◌<◌, true, ltb, eqb, List, [], length, get_or, arith}
 use Rattle.std.specs.List.{list_all}
 use Rattle.std.proofs.lemmas.Bool.{ltb-true, eqb-true}
 use Rattle.std.proofs.lemmas.List.Sums.{AllPass-from_list_all}
@@ -13,3 +13,7 @@ entry_below rows n o k all row place =
 -- a row of a table all of whose rows are of length n is of length n
 pub row_length : (rows : List (List ℕ)) (n o : ℕ) → list_all (λ row. eqb (length row) n) rows ≡ true → o < length rows → length (get_or rows o []) ≡ n
 row_length rows n o all row = eqb-true _ _ (AllPass-from_list_all (λ row. eqb (length row) n) rows all o [] row)
+
+-- the same where all rows are of length m
+pub entry_in : (rows : List (List ℕ)) (m n o k : ℕ) → list_all (λ row. eqb (length row) m) rows ≡ true → list_all (list_all (λ c. ltb c n)) rows ≡ true → o < length rows → k < m → get_or (get_or rows o []) k 0 < n
+entry_in rows m n o k width all row place = entry_below rows n o k all row (omega (arith, place, row_length rows m o width row))
