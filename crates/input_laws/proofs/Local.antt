@@ -105,22 +105,14 @@ tested-local {E} {A} {B} at number_of test told = record { beyond = beyond-of; b
 
 -- ---- a quoted text
 
--- what is after the tokens of a line
-after_line-beyond : (l line : ℕ) (ws : List Lexeme) → Beyond l ws → Beyond l (after_line line ws)
-after_line-beyond l line [] late = tt
-after_line-beyond l line (w ∷ ws) late = go (w.line == line) (after_line-beyond l line ws late.1)
+-- what all tokens have, those after the tokens of a line have
+after_line-all : (P : Lexeme → Type 0) (line : ℕ) (ws : List Lexeme) → AllByRecursion P ws → AllByRecursion P (after_line line ws)
+after_line-all P line [] h = tt
+after_line-all P line (w ∷ ws) h = go (w.line == line) (after_line-all P line ws h.1)
   where
-    go : (b : Bool) → Beyond l (after_line line ws) → Beyond l (cond b (after_line line ws) (w ∷ ws))
+    go : (b : Bool) → AllByRecursion P (after_line line ws) → AllByRecursion P (cond b (after_line line ws) (w ∷ ws))
     go true r = r
-    go false r = late
-
-after_line-upto : (l line : ℕ) (ws : List Lexeme) → Upto l ws → Upto l (after_line line ws)
-after_line-upto l line [] upto = tt
-after_line-upto l line (w ∷ ws) upto = go (w.line == line) (after_line-upto l line ws upto.1)
-  where
-    go : (b : Bool) → Upto l (after_line line ws) → Upto l (cond b (after_line line ws) (w ∷ ws))
-    go true r = r
-    go false r = upto
+    go false r = h
 
 after_line-append : (l line : ℕ) (ps ys : List Lexeme) → line ≤ l → Beyond l ys → after_line line (ps ++ ys) ≡ after_line line ps ++ ys
 after_line-append l line [] [] low late = refl
@@ -136,7 +128,7 @@ quoted-local {E} at = record { beyond = beyond-of; before = before-of }
   where
     late_of : (l : ℕ) (f : Faults E) (line : ℕ) (rest : List Lexeme) (text : Option (List ℕ)) → TellLines at f → l < line → Beyond l rest → Late at l (text_where f line rest text)
     late_of l f line rest None tell less late = omega (arith, tell.name line, less)
-    late_of l f line rest (Some text) tell less late = after_line-beyond l line rest late
+    late_of l f line rest (Some text) tell less late = after_line-all (λ (v : Lexeme). l < v.line) line rest late
 
     beyond-of : (l : ℕ) (f : Faults E) (xs : List Lexeme) → TellLines at f → l < at f.ended → Beyond l xs → Late at l (quoted f xs)
     beyond-of l f [] tell end late = end
@@ -144,7 +136,7 @@ quoted-local {E} at = record { beyond = beyond-of; before = before-of }
 
     outcome : (l : ℕ) (f : Faults E) (w : Lexeme) (ps xs : List Lexeme) → w.line ≤ l → Upto l ps → (text : Option (List ℕ)) → w.quoted ≡ text → Outcome at l quoted f (w ∷ ps) xs
     outcome l f w ps xs low upto None is = fails (f.name w.line) (λ g ys same b. ap (text_where g w.line (ps ++ ys)) is ∙ ap Err (sym (same.name w.line)))
-    outcome l f w ps xs low upto (Some text) is = reads text (after_line w.line ps) (after_line-upto l w.line ps upto) (λ g ys same b. ap (text_where g w.line (ps ++ ys)) is ∙ ap (λ rest. Ok (text, rest)) (after_line-append l w.line ps ys low b))
+    outcome l f w ps xs low upto (Some text) is = reads text (after_line w.line ps) (after_line-all (λ (v : Lexeme). v.line ≤ l) w.line ps upto) (λ g ys same b. ap (text_where g w.line (ps ++ ys)) is ∙ ap (λ rest. Ok (text, rest)) (after_line-append l w.line ps ys low b))
 
     before-of : (l : ℕ) (f : Faults E) (ps xs : List Lexeme) → TellLines at f → l < at f.ended → Upto l ps → Beyond l xs → Outcome at l quoted f ps xs
     before-of l f [] xs tell end upto beyond = passes (beyond-of l f xs tell end beyond)
