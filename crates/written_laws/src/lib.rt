@@ -1,0 +1,17 @@
+//! A mesh that is written out as a file is read back: laws of texts and of what they are read as.
+//!
+//! Each function below does nothing: its contract is the law, and its proof is the law's.
+#![tactic(auto)]
+
+ghost use Rattle.std.specs.Prelude.{◌≡◌, ℕ, ℤ, Ok, decimal};
+ghost use Rattle.std.specs.Fmt.{signed_decimal};
+ghost use Rattle.line_defs.specs.Numbers.{fixed_text};
+ghost use Rattle.scan_defs.specs.Numbers.{uint_of, int_of, fixed_of};
+ghost use Rattle.input_defs.specs.RightContent.{IsUnsigned, IsSigned, IsFixed};
+
+/// The decimal text of a number in range is read as that number.
+pub fn written_numbers_are_read_back()
+    ensures unsigned { (n : ℕ) → IsUnsigned n → uint_of (decimal n) ≡ Ok n }
+    ensures signed { (z : ℤ) → IsSigned z → int_of (signed_decimal z) ≡ Ok z }
+    ensures fixed { (v : ℤ) → IsFixed v → fixed_of (fixed_text v) ≡ Ok v }
+{}
