@@ -13,3 +13,4 @@ pub mod RightNumbers
 pub mod RightSections
 pub mod RightFiles
 pub mod PlainText
+pub mod RightAccepted

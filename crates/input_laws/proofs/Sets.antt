@@ -80,10 +80,10 @@ sorted-back g h xs ys all_x all_y same =
 -- ---- positions of vertices
 
 -- the number of the vertex at a position
-number_at : List Node → ℕ → ℕ
+unfoldable pub number_at : List Node → ℕ → ℕ
 number_at vs k = get_or (map (λ (node : Node). node.number) vs) k 0
 
-position-back : (vs : List Node) (v : ℕ) → list_any (λ (node : Node). node.number == v) vs ≡ true → number_at vs (vertex_of vs v) ≡ v
+pub position-back : (vs : List Node) (v : ℕ) → list_any (λ (node : Node). node.number == v) vs ≡ true → number_at vs (vertex_of vs v) ≡ v
 unfolding number_at
 position-back [] v h = absurd (cc h)
 position-back (node ∷ vs) v h = go (node.number == v) refl (position-back vs v)
@@ -116,15 +116,15 @@ abbrev pub numbers_of : List Node → List ℕ
 numbers_of ns = map (λ (node : Node). node.number) ns
 
 -- an element of a list passes some test there
-IsIn : List Element → Element → Type 0
+pub IsIn : List Element → Element → Type 0
 IsIn es e = (q : Element → Bool) → q e ≡ true → list_any q es ≡ true
 
-all-in : (es : List Element) → AllByRecursion (IsIn es) es
+pub all-in : (es : List Element) → AllByRecursion (IsIn es) es
 unfolding IsIn
 all-in [] = tt
 all-in (e ∷ es) = (λ q h. or_left (q e) (list_any q es) h, all_weaker (IsIn es) (IsIn (e ∷ es)) (λ f i q h. or_right (q e) (list_any q es) (i q h)) es (all-in es))
 
-all-kept : (P : Element → Type 0) (earlier es : List Element) → AllByRecursion P es → AllByRecursion P (kept_after earlier es)
+pub all-kept : (P : Element → Type 0) (earlier es : List Element) → AllByRecursion P es → AllByRecursion P (kept_after earlier es)
 all-kept P earlier [] all = tt
 all-kept P earlier (e ∷ es) all = go (list_any (same_place e) earlier) (all-kept P earlier es all.1) (all-kept P (e ∷ earlier) es all.1)
   where
@@ -140,9 +140,10 @@ has-self : (vs : List ℕ) → AllByRecursion (λ v. has_number vs v ≡ true) v
 has-self [] = tt
 has-self (v ∷ vs) = (or_left (v == v) (has_number vs v) (eq-eqb v v refl), all_weaker (λ w. has_number vs w ≡ true) (λ w. has_number (v ∷ vs) w ≡ true) (λ w h. or_right (v == w) (has_number vs w) h) vs (has-self vs))
 
-goes_back : (c : Content) (e : Element) → IsIn c.elements e → AllByRecursion (λ v. has_number (numbers_of c.nodes) v ≡ true) e.nodes → is_top c e ≡ true → GoesBack c e
-unfolding GoesBack IsIn vertex_nodes
-goes_back c e among known top = all_both (λ v. has_number (numbers_of c.nodes) v ≡ true) (λ v. has_number e.nodes v ≡ true) (λ v. number_at (vertex_nodes c) (vertex_of (vertex_nodes c) v) ≡ v) back e.nodes known (has-self e.nodes)
+-- the corners of an element of the mesh's dimension are vertices
+pub top-corners : (c : Content) (e : Element) → IsIn c.elements e → AllByRecursion (λ v. has_number (numbers_of c.nodes) v ≡ true) e.nodes → is_top c e ≡ true → AllByRecursion (λ v. list_any (λ (node : Node). node.number == v) (vertex_nodes c) ≡ true) e.nodes
+unfolding IsIn vertex_nodes
+top-corners c e among known top = all_both (λ v. has_number (numbers_of c.nodes) v ≡ true) (λ v. has_number e.nodes v ≡ true) (λ v. list_any (λ (node : Node). node.number == v) (filter test c.nodes) ≡ true) vertex e.nodes known (has-self e.nodes)
   where
     test : Node → Bool
     test n = list_any (λ f. is_top c f && has_number f.nodes n.number) c.elements
@@ -150,8 +151,12 @@ goes_back c e among known top = all_both (λ v. has_number (numbers_of c.nodes) 
     used : (v : ℕ) → has_number e.nodes v ≡ true → (n : Node) → n.number ≡ v → test n ≡ true
     used v h n same = among (λ f. is_top c f && has_number f.nodes n.number) (ap₂ (λ a b. a && b) top (ap (has_number e.nodes) same ∙ h))
 
-    back : (v : ℕ) → has_number (numbers_of c.nodes) v ≡ true → has_number e.nodes v ≡ true → number_at (filter test c.nodes) (vertex_of (filter test c.nodes) v) ≡ v
-    back v h g = position-back (filter test c.nodes) v (is-vertex test c.nodes v (used v g) (sym (any_map (λ m. m == v) (λ (n : Node). n.number) c.nodes) ∙ h))
+    vertex : (v : ℕ) → has_number (numbers_of c.nodes) v ≡ true → has_number e.nodes v ≡ true → list_any (λ (node : Node). node.number == v) (filter test c.nodes) ≡ true
+    vertex v h g = is-vertex test c.nodes v (used v g) (sym (any_map (λ m. m == v) (λ (n : Node). n.number) c.nodes) ∙ h)
+
+goes_back : (c : Content) (e : Element) → IsIn c.elements e → AllByRecursion (λ v. has_number (numbers_of c.nodes) v ≡ true) e.nodes → is_top c e ≡ true → GoesBack c e
+unfolding GoesBack
+goes_back c e among known top = all_weaker (λ v. list_any (λ (node : Node). node.number == v) (vertex_nodes c) ≡ true) (λ v. number_at (vertex_nodes c) (vertex_of (vertex_nodes c) v) ≡ v) (λ v h. position-back (vertex_nodes c) v h) e.nodes (top-corners c e among known top)
 
 -- what a cell's element has
 IsCell : Content → Element → Type 0

@@ -7,6 +7,7 @@ ghost use Rattle.std.specs.Prelude.{◌≡◌, ◌<◌, ◌≤◌, ℕ, List, []
 ghost use Rattle.std.specs.List.{AllByRecursion};
 ghost use Rattle.plain_lists.specs.Lists.{sorted, differ_as_sets};
 ghost use Rattle.mesh_defs.specs.Mesh.{Mesh, Cell, Mark};
+ghost use Rattle.mesh_defs.specs.RightMesh.{IsRightMesh};
 ghost use Rattle.line_defs.specs.Rows.{lines_of};
 ghost use Rattle.text_defs.specs.Text.{plain_text};
 ghost use Rattle.input_defs.specs.Content.{Element, Content};
@@ -42,6 +43,12 @@ pub fn cells_are_first_of_their_sets()
 /// differ, as many corners as an element's type has, values for each component, and no more of anything than the limits allow.
 pub fn right_files_have_right_content()
     ensures { (bytes : List ℕ) (c : Content) → content bytes ≡ Ok c → IsRight c }
+{}
+
+/// The mesh of a right content is a right mesh, and so is that of a right file.
+pub fn right_contents_have_right_meshes()
+    ensures contents { (c : Content) (m : Mesh) → IsRight c → accepted c ≡ Ok m → IsRightMesh m }
+    ensures files { (bytes : List ℕ) (c : Content) (m : Mesh) → content bytes ≡ Ok c → accepted c ≡ Ok m → IsRightMesh m }
 {}
 
 /// The cells of the mesh of a right file have different sets of vertices.
