@@ -1,4 +1,5 @@
 pub mod Causes
+pub mod ReadPlans
 pub mod Ranks
 pub mod Kept
 pub mod Labels
