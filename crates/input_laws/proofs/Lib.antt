@@ -15,3 +15,4 @@ pub mod RightSections
 pub mod RightFiles
 pub mod PlainText
 pub mod RightAccepted
+pub mod Assignments

@@ -1,14 +1,12 @@
 -- The rank of a cell is a rank of the plan, where the plan fits.
-use Rattle.std.proofs.Common.{◌≡◌, ℕ, ◌+◌, ◌*◌, ◌<◌, ◌≤◌, Bool, true, false, cond, not, ◌||◌, ◌==◌, List, [], ◌∷◌, Option, Some, None, Ok, length, get_or, refl, ap, ◌∙◌, subst, arith, eqb-true}
-use Rattle.std.specs.Prelude.{Result, Contains, nat_lt, is_none}
+use Rattle.std.proofs.Common.{◌≡◌, ℕ, ◌*◌, ◌<◌, ◌≤◌, Bool, false, List, [], ◌∷◌, None, Ok, length, get_or, subst, arith, eqb-true}
+use Rattle.std.specs.Prelude.{Contains}
 use Rattle.std.specs.List.{AllByRecursion}
-use Rattle.std.proofs.lemmas.Bool.{or_parts, eqb-false, leb-false, not-false}
+use Rattle.std.proofs.lemmas.Bool.{leb-false, not-false}
 use Rattle.std.proofs.Math.Nat.{div-lt_iff_lt-mul, mod-lt, mul-lt-mul_of_pos_right, mul_comm}
 use Rattle.plain_lists.proofs.Each.{all_at, all_in_flat_map, all_contained}
-use Rattle.line_defs.specs.Rows.{lines_of, tokens_of}
 use Rattle.input_defs.specs.declared.PlanFault.{PlanFault}
-use Rattle.input_defs.specs.declared.PlanFault.TheVariants.{Word, Ranks}
-use Rattle.input_defs.specs.Plans.{Plan, Spread, Block, Stripe, Listed, Part, Layers, Form, IsRanks, IsMove, IsDofs, IsShow, Before, before_any_line, both, form_of, with_form, with_line, plan_with, plan_from, plan_of, rank_by, ranks_above, misfits, misfit}
+use Rattle.input_defs.specs.Plans.{Plan, Spread, Block, Stripe, Listed, Part, plan_of, rank_by, ranks_above, misfits, misfit}
 use Rattle.input_laws.proofs.Causes.{first_cause-none}
 use Rattle.input_laws.proofs.ReadPlans.{plan-read}
 

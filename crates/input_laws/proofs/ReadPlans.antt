@@ -1,11 +1,11 @@
 -- What every plan that is read has: 1 to 64 ranks, a part as its first step, and right counts in its `dofs` lines.
-use Rattle.std.proofs.Common.{◌≡◌, ℕ, ◌+◌, ◌<◌, ◌≤◌, Bool, true, false, cond, not, ◌&&◌, ◌||◌, ◌==◌, List, [], ◌∷◌, ◌++◌, map, Option, Some, None, Ok, length, get_or, refl, sym, ap, ◌∙◌, subst, arith}
+use Rattle.std.proofs.Common.{◌≡◌, ℕ, ◌+◌, ◌≤◌, Bool, true, false, cond, not, ◌&&◌, ◌||◌, ◌==◌, List, [], ◌∷◌, ◌++◌, map, Option, Some, None, Ok, length, refl, sym, ◌∙◌, subst, arith}
 use Rattle.std.specs.Prelude.{Result, nat_lt, nat_le, slice_get, is_none, option_map, find, codes}
 use Rattle.std.specs.List.{list_any, list_all, AllByRecursion}
-use Rattle.std.proofs.lemmas.Bool.{or_parts, eqb-false, leb-false, ltb-false, not-false, both_ways}
+use Rattle.std.proofs.lemmas.Bool.{or_parts, eqb-false, leb-false, ltb-false, not-false}
 use Rattle.std.proofs.lemmas.List.{length-append, length-map, map-append}
 use Rattle.plain_lists.specs.Lists.{same_list}
-use Rattle.plain_lists.proofs.Each.{all_weaker, all_append, all_map}
+use Rattle.plain_lists.proofs.Each.{all_weaker, all_append}
 use Rattle.plain_lists.proofs.Finding.{each_fails}
 use Rattle.line_defs.specs.Rows.{lines_of, tokens_of}
 use Rattle.line_defs.specs.Numbers.{number_of_digits}
@@ -13,7 +13,7 @@ use Rattle.plex_defs.specs.Fields.{AreRightDofs}
 use Rattle.input_defs.specs.declared.PlanFault.{PlanFault}
 use Rattle.input_defs.specs.declared.PlanFault.TheVariants.{Word, Ranks, NoPart, Overlap, Dofs, Steps}
 use Rattle.input_defs.specs.declared.Show.{Show}
-use Rattle.input_defs.specs.Plans.{Plan, Spread, Block, Stripe, Listed, Move, Part, Layers, DofsLine, Form, IsRanks, IsMove, IsDofs, IsShow, Before, before_any_line, is_number, plan_numbers, shows_of, show_of, part_of, dofs_of, with_number, form_of, both, is_part, has_part, is_field_name, layers_with, layers_of, with_move, with_form, is_comment, with_line, plan_with, plan_from, plan_of}
+use Rattle.input_defs.specs.Plans.{Plan, Spread, Block, Stripe, Listed, Move, Part, Layers, DofsLine, Form, IsRanks, IsMove, IsDofs, IsShow, Before, before_any_line, is_number, plan_numbers, shows_of, show_of, part_of, dofs_of, with_number, form_of, both, is_part, has_part, is_field_name, layers_with, layers_of, with_form, is_comment, with_line, plan_with, plan_from, plan_of}
 use Rattle.input_laws.proofs.Causes.{unless-ok, first_cause-none, bind-ok}
 
 -- ---- forms
@@ -90,7 +90,7 @@ four-form word tokens =
 -- ---- what was read up to a line
 
 -- there are no steps, or the first of them is a part
-pub BeginsWithPart : List (ℕ × Move) → Type 0
+unfoldable pub BeginsWithPart : List (ℕ × Move) → Type 0
 BeginsWithPart [] = Unit {0}
 BeginsWithPart ((line, Part spread) ∷ moves) = Unit {0}
 BeginsWithPart ((line, Layers k) ∷ moves) = ⊥

@@ -16,13 +16,24 @@ ghost use Rattle.input_defs.specs.Files.{content};
 ghost use Rattle.input_defs.specs.RightContent.{IsRight};
 ghost use Rattle.input_defs.specs.Further.{full_text};
 ghost use Rattle.input_defs.specs.Meshes.{accepted, cell_elements, cell_of, vertex_nodes, dim, same_place, is_point_of};
-ghost use Rattle.input_defs.specs.Plans.{Plan, Spread, Part, plan_of, misfit, rank_by};
+ghost use Rattle.plex_defs.specs.Fields.{AreRightDofs};
+ghost use Rattle.rank_defs.specs.Ranks.{IsRightAssignment};
+ghost use Rattle.input_defs.specs.Plans.{Plan, DofsLine, Spread, Part, plan_of, misfit, rank_by};
+ghost use Rattle.input_defs.specs.States.{State, states, first_ranks};
 ghost use Rattle.input_laws.specs.FaultLines.{line_of};
 ghost use Rattle.input_laws.specs.Sublists.{IsSublist, differ_in_place};
 
 /// A part gives a rank of the plan to every cell of a mesh that the plan fits.
 pub fn rank_is_below_ranks()
     ensures { (bytes : List ℕ) (plan : Plan) (cells line : ℕ) (spread : Spread) (cell : ℕ) → plan_of bytes ≡ Ok plan → misfit plan cells ≡ None → Contains plan.moves (line, Part spread) → cell < cells → rank_by plan.ranks spread cell cells < plan.ranks }
+{}
+
+/// What a plan that fits a mesh assigns is right: each step gives each cell one of its 1 to 64 ranks. Its `dofs` lines have
+/// right counts.
+pub fn plans_assign_right_ranks()
+    ensures steps { (bytes : List ℕ) (plan : Plan) (m : Mesh) (s : State) → plan_of bytes ≡ Ok plan → misfit plan (length m.cells) ≡ None → Contains (states m plan) s → IsRightAssignment m plan.ranks s.ranks }
+    ensures first { (bytes : List ℕ) (plan : Plan) (m : Mesh) → plan_of bytes ≡ Ok plan → misfit plan (length m.cells) ≡ None → IsRightAssignment m plan.ranks (first_ranks m plan) }
+    ensures dofs { (bytes : List ℕ) (plan : Plan) → plan_of bytes ≡ Ok plan → AreRightDofs (map (λ (d : DofsLine). d.dofs) plan.dofs) }
 {}
 
 /// Every label value is on a point of the mesh.
