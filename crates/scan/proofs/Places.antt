@@ -7,7 +7,7 @@ use Rattle.std.proofs.lemmas.List.Folds.{length-prefix_len}
 use Rattle.std.proofs.lemmas.List.{length-take, length-drop, drop_all, drop-drop, drop_more, take_more, get_or-drop, reverse-append}
 use Rattle.std.proofs.lemmas.List.Sums.{count_by_more_yes, count_by_more_no, count_by-le-length, take_while-cons, prefix_len-le-length, prefix_len-drop_yes, fails_before_first, passes_at_first}
 use Rattle.line_defs.specs.Rows.{is_blank, is_newline}
-use Rattle.scan_defs.specs.Lines.{line_number, lines_from, is_indent, rest_of_line, line_end, after_line, front, back}
+use Rattle.scan_defs.specs.Lines.{line_number, lines_from, is_indent, rest_of_line, line_end, place_after_line, front, back}
 use Rattle.scan_defs.specs.Items.{Item, Header, Word, ahead}
 use Rattle.scan_defs.specs.Quotes.{quoted_in}
 use Rattle.scan_defs.specs.Steps.{line_ahead, next_token, place_after_token, ahead_after_token}
@@ -181,7 +181,7 @@ ahead-end bytes p le = ahead-is bytes p ∙ (ap (left (is_indent bytes p) p (lin
 
 pub record OverHeader (bytes : List ℕ) (c : Cursor) (after : Cursor) : Type 0 where
   pub at : IsAt bytes after
-  pub stands : after.place ≡ after_line bytes (c.place + 1)
+  pub stands : after.place ≡ place_after_line bytes (c.place + 1)
   pub is : ahead (spot bytes c.place) ≡ Header (header_name bytes c) ∷ ahead (spot bytes after.place)
 
 pub both : (x y : Bool) → (x && y) ≡ true → (x ≡ true) × (y ≡ true)
@@ -209,7 +209,7 @@ first-left bytes p b e = let zero-is : p + 0 ≡ p = omega arith in get_or-drop 
 
 pub past-header-newline : (bytes : List ℕ) (c : Cursor) (end : ℕ) → IsAt bytes c → c.place < length bytes → (c.is_indent && eqb (get_or bytes c.place 0) 36) ≡ true → end ≡ line_end bytes c.place → end < length bytes
     → OverHeader bytes c (record { place = end + 1; line = c.line + 1; is_indent = true })
-unfolding after_line
+unfolding place_after_line
 past-header-newline bytes c end at lt dollar is more =
     let p : ℕ = c.place in
     let m : ℕ = position_or_len is_newline (drop p bytes) in
@@ -242,7 +242,7 @@ past-header-newline bytes c end at lt dollar is more =
 
 pub past-header-last : (bytes : List ℕ) (c : Cursor) (end : ℕ) → IsAt bytes c → c.place < length bytes → (c.is_indent && eqb (get_or bytes c.place 0) 36) ≡ true → end ≡ line_end bytes c.place → length bytes ≤ end
     → OverHeader bytes c (record { place = end; line = c.line; is_indent = false })
-unfolding after_line
+unfolding place_after_line
 past-header-last bytes c end at lt dollar is last =
     let p : ℕ = c.place in
     let m : ℕ = position_or_len is_newline (drop p bytes) in

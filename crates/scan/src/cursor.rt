@@ -3,7 +3,7 @@
 ghost use Rattle.std.specs.Prelude.{◌≡◌, ◌==◌, ◌&&◌, ◌+◌, ◌<◌, ◌≤◌, ◌∷◌, length, get_or, drop, nat_lt, not, true, false};
 ghost use Rattle.std.specs.List.{position_or_len};
 ghost use Rattle.line_defs.specs.Rows.{is_blank, is_newline};
-ghost use Rattle.scan_defs.specs.Lines.{line_end, after_line, back};
+ghost use Rattle.scan_defs.specs.Lines.{line_end, place_after_line, back};
 ghost use Rattle.scan_defs.specs.Items.{ahead, Word, Header};
 ghost use Rattle.scan_defs.specs.Quotes.{quoted_from};
 ghost use Rattle.scan_defs.specs.Steps.{next_header, ahead_after_header};
@@ -167,7 +167,7 @@ pub fn past_header(bytes: &[u8], at: Cursor) -> Cursor
     requires header { (at.is_indent && (get_or bytes.now at.place 0 == 36)) ≡ true }
     ensures at { IsAt bytes.now result }
     ensures goes_on { at.place < result.place }
-    ensures stands { result.place ≡ after_line bytes.now (at.place + 1) }
+    ensures stands { result.place ≡ place_after_line bytes.now (at.place + 1) }
     ensures ahead { ahead (spot bytes.now at.place) ≡ Header (header_name bytes.now at) ∷ ahead (spot bytes.now result.place) }
 {
     let end = line_end(bytes, at.place);

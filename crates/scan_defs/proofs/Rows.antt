@@ -4,7 +4,7 @@ use Rattle.std.specs.Prelude.{codes}
 use Rattle.scan_defs.specs.declared.Token.{Token}
 use Rattle.scan_defs.specs.declared.NumberFault.TheVariants.{NotNumber, OutOfRange}
 use Rattle.line_defs.specs.Rows.{lines_of}
-use Rattle.scan_defs.specs.Lines.{line_number, lines_from, is_indent, line_end, after_line}
+use Rattle.scan_defs.specs.Lines.{line_number, lines_from, is_indent, line_end, place_after_line}
 use Rattle.scan_defs.specs.Items.{Item, Header, Word, Spot, text_of, is_header, name_of, tokens_on, items_on, items_of, ahead, items, body}
 use Rattle.scan_defs.specs.Quotes.{quoted_on, quoted_from, quoted_in}
 use Rattle.scan_defs.specs.Steps.{place_after_token, next_header, place_after_header, place_after_quoted, ahead_after_quoted}
@@ -78,7 +78,7 @@ names_of_triangle = refl
 
 -- after `$MeshFormat`, after the tokens of its body, and at the header line that ended it
 places_of_format : (place_after_header (at triangle 0) (next_header (items triangle)) ≡ 12) × (map (λ place. place_after_token (at triangle place) (ahead (at triangle place))) (12 ∷ 15 ∷ 17 ∷ 19 ∷ 20 ∷ []) ≡ 15 ∷ 17 ∷ 19 ∷ 20 ∷ 20 ∷ [])
-unfolding lines_of line_number lines_from is_indent line_end after_line name_of tokens_on items_on items_of ahead
+unfolding lines_of line_number lines_from is_indent line_end place_after_line name_of tokens_on items_on items_of ahead
 places_of_format = (refl, refl)
 
 -- ---- quoted texts

@@ -36,8 +36,8 @@ unfoldable pub line_end : List ℕ → ℕ → ℕ
 line_end bytes place = place + length (rest_of_line bytes place)
 
 -- the place after the line of a place
-unfoldable pub after_line : List ℕ → ℕ → ℕ
-after_line bytes place = min (line_end bytes place + 1) (length bytes)
+unfoldable pub place_after_line : List ℕ → ℕ → ℕ
+place_after_line bytes place = min (line_end bytes place + 1) (length bytes)
 
 -- ---- within a line: the place of its first byte that is no blank, and the place after its last one
 

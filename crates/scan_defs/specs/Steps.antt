@@ -1,7 +1,7 @@
 -- What the calls of a scan answer, and where it stands after them.
 use Rattle.std.specs.Prelude.{ℕ, ◌-◌, ◌==◌, Bool, false, if◌then◌else◌, List, [], ◌∷◌, length, Option, Some, None, Result, Ok, Err}
 use Rattle.scan_defs.specs.declared.Token.{Token}
-use Rattle.scan_defs.specs.Lines.{line_number, line_end, after_line}
+use Rattle.scan_defs.specs.Lines.{line_number, line_end, place_after_line}
 use Rattle.scan_defs.specs.Items.{Item, Header, Word, Spot}
 
 -- the same bytes, at another place
@@ -42,7 +42,7 @@ next_header (Word token ∷ items) = next_header items
 -- after that line, else at the end of the bytes
 abbrev pub place_after_header : Spot → Option Token → ℕ
 place_after_header s None = length s.bytes
-place_after_header s (Some name) = after_line s.bytes name.start
+place_after_header s (Some name) = place_after_line s.bytes name.start
 
 abbrev pub ahead_after_header : List Item → List Item
 ahead_after_header [] = []
