@@ -62,7 +62,7 @@ whole_plan : plan_of (codes "  # a plan\n\nranks 02\t\r\n dofs u_1 1 0 0 16\npar
 unfolding lines_of tokens_of form_of with_form plan_from plan_of rank_by misfits misfit
 whole_plan = refl
 
-plain_plan_in_words : plan_of (codes "ranks 1\npart block\nshow points\n") ≡ Ok plain_plan
+pub plain_plan_in_words : plan_of (codes "ranks 1\npart block\nshow points\n") ≡ Ok plain_plan
 unfolding lines_of tokens_of form_of with_form plan_from plan_of rank_by misfits misfit
 plain_plan_in_words = refl
 

@@ -16,3 +16,4 @@ pub mod RightFiles
 pub mod PlainText
 pub mod RightAccepted
 pub mod Assignments
+pub mod Tasks

@@ -3,7 +3,7 @@
 //! Each function below does nothing: its contract is the law, and its proof is the law's.
 #![tactic(auto)]
 
-ghost use Rattle.std.specs.Prelude.{◌≡◌, ◌<◌, ◌≤◌, ℕ, List, [], ◌∷◌, ◌++◌, length, take, Ok, Err, None, Some, Contains, map, find, true};
+ghost use Rattle.std.specs.Prelude.{◌≡◌, ◌<◌, ◌≤◌, ℕ, List, [], ◌∷◌, ◌++◌, length, take, Ok, Err, None, Some, Contains, map, find, true, Option};
 ghost use Rattle.std.specs.List.{AllByRecursion};
 ghost use Rattle.plain_lists.specs.Lists.{sorted, differ_as_sets};
 ghost use Rattle.mesh_defs.specs.Mesh.{Mesh, Cell, Mark};
@@ -20,6 +20,8 @@ ghost use Rattle.plex_defs.specs.Fields.{AreRightDofs};
 ghost use Rattle.rank_defs.specs.Ranks.{IsRightAssignment};
 ghost use Rattle.input_defs.specs.Plans.{Plan, DofsLine, Spread, Part, plan_of, misfit, rank_by};
 ghost use Rattle.input_defs.specs.States.{State, states, first_ranks};
+ghost use Rattle.input_defs.specs.Words.{mesh_name};
+ghost use Rattle.input_defs.specs.Refused.{Task, fitting_task};
 ghost use Rattle.input_laws.specs.FaultLines.{line_of};
 ghost use Rattle.input_laws.specs.Sublists.{IsSublist, differ_in_place};
 
@@ -34,6 +36,15 @@ pub fn plans_assign_right_ranks()
     ensures steps { (bytes : List ℕ) (plan : Plan) (m : Mesh) (s : State) → plan_of bytes ≡ Ok plan → misfit plan (length m.cells) ≡ None → Contains (states m plan) s → IsRightAssignment m plan.ranks s.ranks }
     ensures first { (bytes : List ℕ) (plan : Plan) (m : Mesh) → plan_of bytes ≡ Ok plan → misfit plan (length m.cells) ≡ None → IsRightAssignment m plan.ranks (first_ranks m plan) }
     ensures dofs { (bytes : List ℕ) (plan : Plan) → plan_of bytes ≡ Ok plan → AreRightDofs (map (λ (d : DofsLine). d.dofs) plan.dofs) }
+{}
+
+/// What words and files give to do is right: the mesh of a file, the assignments of the plan's steps, and the counts of its
+/// `dofs` lines.
+pub fn tasks_are_right()
+    ensures meshes { (words : List (List ℕ)) (plan_file mesh_file : Option (List ℕ)) (task : Task) (name : List ℕ) → mesh_name words ≡ Some name → fitting_task words plan_file mesh_file ≡ Ok task → IsRightMesh task.mesh }
+    ensures steps { (words : List (List ℕ)) (plan_file mesh_file : Option (List ℕ)) (task : Task) (s : State) → fitting_task words plan_file mesh_file ≡ Ok task → Contains (states task.mesh task.plan) s → IsRightAssignment task.mesh task.plan.ranks s.ranks }
+    ensures first { (words : List (List ℕ)) (plan_file mesh_file : Option (List ℕ)) (task : Task) → fitting_task words plan_file mesh_file ≡ Ok task → IsRightAssignment task.mesh task.plan.ranks (first_ranks task.mesh task.plan) }
+    ensures dofs { (words : List (List ℕ)) (plan_file mesh_file : Option (List ℕ)) (task : Task) → fitting_task words plan_file mesh_file ≡ Ok task → AreRightDofs (map (λ (d : DofsLine). d.dofs) task.plan.dofs) }
 {}
 
 /// Every label value is on a point of the mesh.
