@@ -23,9 +23,9 @@ pub record Request : Type 0 where
   pub summary : Bool
 
 -- the name of the file of a mesh that is not made
-abbrev pub file_of : Source → Option (List ℕ)
-file_of (File name) = Some name
-file_of (Made kind n) = None
+abbrev pub source_name : Source → Option (List ℕ)
+source_name (File name) = Some name
+source_name (Made kind n) = None
 
 -- a name is not empty and does not begin with `-`
 abbrev pub is_file_name : List ℕ → Bool
@@ -112,4 +112,4 @@ abbrev pub plan_name : List (List ℕ) → Option (List ℕ)
 plan_name words = option_and_then (λ (r : Request). r.plan) (request words)
 
 abbrev pub mesh_name : List (List ℕ) → Option (List ℕ)
-mesh_name words = option_and_then (λ (r : Request). file_of r.source) (request words)
+mesh_name words = option_and_then (λ (r : Request). source_name r.source) (request words)

@@ -12,7 +12,7 @@ use Rattle.input_defs.specs.Causes.{◌>>=◌, map_ok, unless}
 use Rattle.input_defs.specs.Files.{content}
 use Rattle.input_defs.specs.Meshes.{accepted}
 use Rattle.input_defs.specs.Plans.{Plan, plan_of, plain_plan, misfit}
-use Rattle.input_defs.specs.Words.{Source, File, Made, Request, request, file_of, mesh_name}
+use Rattle.input_defs.specs.Words.{Source, File, Made, Request, request, source_name, mesh_name}
 use Rattle.input_defs.specs.Refused.{Refusal, Task, or_refuse, short_file, msh_refused, mesh_refused, plan_refused, mesh_in, plan_asked, mesh_asked, where_fits, task_by, fitting_task}
 use Rattle.input_defs.proofs.PlanRows.{plain_plan_in_words}
 use Rattle.input_laws.proofs.Causes.{unless-ok}
@@ -45,7 +45,7 @@ file-mesh bytes m h = go (content bytes) refl h
     go (Ok c) is t = right-accepted c m (content-right bytes c is) (or_refuse-ok status.Mesh mesh_refused (accepted c) m t)
     go (Err e) is t = absurd (cc t)
 
-asked-mesh : (source : Source) (name : List ℕ) (file : Option (List ℕ)) (m : Mesh) → file_of source ≡ Some name → mesh_asked source file ≡ Ok (Ok m) → IsRightMesh m
+asked-mesh : (source : Source) (name : List ℕ) (file : Option (List ℕ)) (m : Mesh) → source_name source ≡ Some name → mesh_asked source file ≡ Ok (Ok m) → IsRightMesh m
 asked-mesh (File called) name file m same h = let read = map_ok-read mesh_in (short_file called file) (Ok m) h in file-mesh read.0 m read.1
 asked-mesh (Made kind n) name file m same h = absurd (cc same)
 
@@ -95,7 +95,7 @@ made-of words plan_file mesh_file task h = by_words (request words) refl h
 pub task-mesh : (words : List (List ℕ)) (plan_file mesh_file : Option (List ℕ)) (task : Task) (name : List ℕ) → mesh_name words ≡ Some name → fitting_task words plan_file mesh_file ≡ Ok task → IsRightMesh task.mesh
 task-mesh words plan_file mesh_file task name named h =
     let parts = made-of words plan_file mesh_file task h in
-    asked-mesh parts.asked.source name mesh_file task.mesh (sym (ap (option_and_then (λ (r : Request). file_of r.source)) parts.words_ask) ∙ named) parts.mesh
+    asked-mesh parts.asked.source name mesh_file task.mesh (sym (ap (option_and_then (λ (r : Request). source_name r.source)) parts.words_ask) ∙ named) parts.mesh
 
 -- the plan is one that was read, and fits
 pub task-plan : (words : List (List ℕ)) (plan_file mesh_file : Option (List ℕ)) (task : Task) → fitting_task words plan_file mesh_file ≡ Ok task → (bytes : List ℕ) × (plan_of bytes ≡ Ok task.plan) × (misfit task.plan (length task.mesh.cells) ≡ None)
