@@ -136,7 +136,7 @@ cut a b l (Header t ∷ is) js ks same late_js late_ks h = go (has_header is) re
 
 -- ---- the items of a file
 
-items-whole : (bytes : List ℕ) → items bytes ≡ flat_map items_on (lines_at 0 1 (lines_of bytes))
+pub items-whole : (bytes : List ℕ) → items bytes ≡ flat_map items_on (lines_at 0 1 (lines_of bytes))
 unfolding ahead items_of is_indent lines_from line_number
 items-whole bytes = go (lines_at 0 1 (lines_of bytes))
   where

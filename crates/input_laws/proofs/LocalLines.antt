@@ -35,7 +35,7 @@ pub record Stands (bytes : List ℕ) (line : Line) : Type 0 where
 drop-in : (bytes : List ℕ) (line : Line) (s : Stands bytes line) (i : ℕ) → drop (line.start + i) bytes ≡ drop i (line.text ++ s.rest)
 drop-in bytes line s i = ap₂ (λ k (bs : List ℕ). drop (k + i) bs) (sym s.place) s.whole ∙ drop-append-add s.before (line.text ++ s.rest) i
 
-slice-in : (bytes : List ℕ) (line : Line) → Stands bytes line → (i j : ℕ) → j ≤ length line.text → slice_range bytes (line.start + i) (line.start + j) ≡ slice_range line.text i j
+pub slice-in : (bytes : List ℕ) (line : Line) → Stands bytes line → (i j : ℕ) → j ≤ length line.text → slice_range bytes (line.start + i) (line.start + j) ≡ slice_range line.text i j
 slice-in bytes line s i j within =
     let same : line.start + j - (line.start + i) ≡ j - i = omega arith in
     ap₂ (λ k (bs : List ℕ). take k bs) same (drop-in bytes line s i) ∙ ⊎_elim
@@ -59,7 +59,7 @@ before-newline (y ∷ ys) rest ends = go (is_newline y) (before-newline ys rest 
     go true r = refl
     go false r = longer (ys ++ rest) (position_or_len is_newline (ys ++ rest)) ∙ (ap (λ zs. y ∷ zs) r ∙ sym (longer ys (position_or_len is_newline ys)))
 
-rest-in : (bytes : List ℕ) (line : Line) → Stands bytes line → (i : ℕ) → i ≤ length line.text → rest_of_line bytes (line.start + i) ≡ before_first is_newline (drop i line.text)
+pub rest-in : (bytes : List ℕ) (line : Line) → Stands bytes line → (i : ℕ) → i ≤ length line.text → rest_of_line bytes (line.start + i) ≡ before_first is_newline (drop i line.text)
 rest-in bytes line s i low = ap (before_first is_newline) (drop-in bytes line s i ∙ drop-append-le i line.text s.rest low) ∙ before-newline (drop i line.text) s.rest s.ends
 
 -- ---- a token in a line
@@ -74,7 +74,7 @@ pub record Within (line : Line) (t : Token) : Type 0 where
   pub number : t.line ≡ line.number
 
 -- its bytes
-text-in : (bytes : List ℕ) (line : Line) (t : Token) → Stands bytes line → (w : Within line t) → text_of bytes t ≡ slice_range line.text w.from w.to
+pub text-in : (bytes : List ℕ) (line : Line) (t : Token) → Stands bytes line → (w : Within line t) → text_of bytes t ≡ slice_range line.text w.from w.to
 text-in bytes line t s w = ap₂ (λ i j. slice_range bytes i j) w.start w.end ∙ slice-in bytes line s w.from w.to w.to_low
 
 pub text-same : (a b : List ℕ) (line : Line) (t : Token) → Stands a line → Stands b line → Within line t → text_of a t ≡ text_of b t

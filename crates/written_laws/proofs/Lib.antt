@@ -1,1 +1,3 @@
 pub mod NumberTexts
+pub mod PlainLines
+pub mod WrittenLines

@@ -333,3 +333,26 @@ fixed-back (negsuc n) low =
     let t = unsigned-plain (n + 1) near in
     let one : n + 1 ≡ suc n = omega arith in
     token-back (45 ∷ unsigned_fixed_text (n + 1)) (unsigned_fixed_text (n + 1)) t.whole t.rest true (n + 1) refl refl t.plain t.value t.fraction near ∙ ap (λ m. Ok (neg_ℤ (pos m))) one
+
+-- its bytes are above the blanks
+unsigned-bytes : (n : ℕ) → n ≤ 9 * 10 ^ 18 → (1 ≤ length (unsigned_fixed_text n)) × AllByRecursion (λ b. 33 ≤ b) (unsigned_fixed_text n)
+unfolding unsigned_fixed_text
+unsigned-bytes n low = go (n % 10 ^ 10 == 0) (decimal-writes (n / 10 ^ 10) (omega (arith, low))) (fraction-tells 10 (n % 10 ^ 10) (omega arith))
+  where
+    w : List ℕ
+    w = decimal (n / 10 ^ 10)
+
+    f : List ℕ
+    f = fraction_digits 10 (n % 10 ^ 10)
+
+    high : (ds : List ℕ) → AllByRecursion IsDigitByte ds → AllByRecursion (λ b. 33 ≤ b) ds
+    high ds h = all_weaker IsDigitByte (λ b. 33 ≤ b) (λ b d. omega (arith, d.0)) ds h
+
+    go : (b : Bool) → Writes (n / 10 ^ 10) w → Fraction 10 (n % 10 ^ 10) f → (1 ≤ length (w ++ cond b [] (46 ∷ f))) × AllByRecursion (λ b. 33 ≤ b) (w ++ cond b [] (46 ∷ f))
+    go true d h = (omega (arith, d.some, length-append w []), all_append (λ b. 33 ≤ b) w [] (high w d.digits) tt)
+    go false d h = (omega (arith, d.some, length-append w (46 ∷ f)), all_append (λ b. 33 ≤ b) w (46 ∷ f) (high w d.digits) (omega arith, high f h.digits))
+
+pub fixed-bytes : (v : ℤ) → IsFixed v → (1 ≤ length (fixed_text v)) × AllByRecursion (λ b. 33 ≤ b) (fixed_text v)
+unfolding fixed_text
+fixed-bytes (pos n) low = unsigned-bytes n low
+fixed-bytes (negsuc n) low = let h = unsigned-bytes (n + 1) (omega (arith, low)) in (omega (arith, h.0), (omega arith, h.1))
