@@ -126,6 +126,34 @@ fn write_lines<W: Sink>(out: &mut W, lines: &[Vec<u8>]) -> Result<(), ReportFaul
     Ok(())
 }
 
+/// A sink that counts each call, also one that succeeds, and says so. It is lawful.
+#[derive(Debug, Drop)]
+struct Busy {
+    calls: u64,
+}
+
+impl Sink for Busy {
+    ghost use Rattle.std.specs.Prelude.{None, false};
+
+    ghost written = { λ _. None };
+
+    ghost flushed = { λ _. 0 };
+
+    ghost faults = { λ s. s.calls };
+
+    ghost counts_failures_alone = { λ _. false };
+
+    fn write(&mut self, _bytes: &[u8]) -> Result<(), Failed> {
+        self.calls = self.calls.saturating_add(1);
+        Ok(())
+    }
+
+    fn flush(&mut self) -> Result<(), Failed> {
+        self.calls = self.calls.saturating_add(1);
+        Ok(())
+    }
+}
+
 /// A caller over any shelf.
 fn take_from<S: Shelf>(shelf: &mut S, name: &str, into: &mut Vec<u8>) -> Result<(), ShelfFault>
     requires { into.old.items ≡ [] }
@@ -149,4 +177,12 @@ fn serves_callers_over_any(rt: HostRuntime) -> Result<(), Fail> {
     );
     assert_eq!(rt; sink.bytes(), b"67123451".as_slice());
     Ok(())
+}
+
+#[test]
+fn serves_a_sink_that_counts_more_than_failures(rt: HostRuntime) {
+    let mut sink = Busy { calls: 0 };
+    assert_eq!(rt; write_both(&mut sink, b"6", b"7"), Ok(()));
+    assert_eq!(rt; sink.flush(), Ok(()));
+    assert_eq!(rt; sink.calls, 3);
 }

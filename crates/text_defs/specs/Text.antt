@@ -42,7 +42,7 @@ entry_text e = codes " " ++ decimal e.point ++ codes ":" ++ signed_decimal e.o
 unfoldable pub at_text : List ℤ → List ℕ
 at_text at = codes " @" ++ flat_map (λ x. codes " " ++ fixed_text x) at
 
--- what comes after the tag: the cone and, for a vertex, its coordinates
+-- what stands after the tag: the cone and, for a vertex, its coordinates
 unfoldable pub tail_text : Poly → List ConeEntry → List ℤ → List ℕ
 tail_text poly cone at = flat_map entry_text cone ++ (if dim_of poly == 0 then at_text at else [])
 
