@@ -1,3 +1,5 @@
 pub mod NumberTexts
 pub mod PlainLines
 pub mod WrittenLines
+pub mod WrittenBodies
+pub mod WrittenFields
