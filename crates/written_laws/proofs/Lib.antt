@@ -3,3 +3,4 @@ pub mod PlainLines
 pub mod WrittenLines
 pub mod WrittenBodies
 pub mod WrittenFields
+pub mod WrittenFiles

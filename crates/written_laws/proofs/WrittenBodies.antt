@@ -200,7 +200,7 @@ corners-read faults known earlier n (v ∷ vs) rest low all fresh differ =
     (corners-read faults known (v ∷ earlier) n vs rest low.1 all.1 (fresh-more v earlier vs differ.0 fresh.1) differ.1)
 
 -- the types that are read are small numbers
-kind-low : (k : ℕ) → is_some (poly_of_type k) ≡ true → IsUnsigned k
+pub kind-low : (k : ℕ) → is_some (poly_of_type k) ≡ true → IsUnsigned k
 kind-low k h = among types (omega arith, (omega arith, (omega arith, (omega arith, (omega arith, (omega arith, tt)))))) h
   where
     among : (rows : List (ℕ × Poly)) → AllByRecursion (λ (row : ℕ × Poly). IsUnsigned row.0) rows → is_some (option_map (λ (row : ℕ × Poly). row.1) (find (λ row. row.0 == k) rows)) ≡ true → IsUnsigned k

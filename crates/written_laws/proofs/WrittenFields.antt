@@ -72,7 +72,7 @@ components-pass line comps h = ⊎_elim
     (λ e. subst (λ c. comps_on line (pos c) ≡ Ok c) (sym e) refl)
     (λ k. ⊎_elim (λ e. subst (λ c. comps_on line (pos c) ≡ Ok c) (sym e) refl) (λ e. subst (λ c. comps_on line (pos c) ≡ Ok c) (sym e) refl) k) h
 
-components-low : (comps : ℕ) → IsComponents comps → comps ≤ 9
+pub components-low : (comps : ℕ) → IsComponents comps → comps ≤ 9
 components-low comps h = ⊎_elim (λ e. omega (arith, e)) (λ k. ⊎_elim (λ e. omega (arith, e)) (λ e. omega (arith, e)) k) h
 
 count-int : (k : ℕ) → k < 2147483648 → int_of (decimal k) ≡ Ok (pos k)

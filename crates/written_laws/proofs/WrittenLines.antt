@@ -83,13 +83,13 @@ words-plain n [] h = refl
 words-plain n (word ∷ []) h = ap (lexemes_on n) (append-nil word) ∙ lexemes-last n word h.0 ∙ ap (λ (t : List ℕ). lexeme n word t ∷ []) (sym (append-nil word))
 words-plain n (word ∷ next ∷ words) h = lexemes-next n word (spaced (next ∷ words)) h.0 ∙ ap (λ xs. lexeme n word (spaced (word ∷ next ∷ words)) ∷ xs) (words-plain n (next ∷ words) h.1)
 
-spaced-more : (words : List (List ℕ)) → AllByRecursion IsWord words → IsLine (flat_map (λ next. 32 ∷ next) words)
+spaced-more : (words : List (List ℕ)) → AllByRecursion IsLine words → IsLine (flat_map (λ next. 32 ∷ next) words)
 spaced-more [] h = tt
-spaced-more (word ∷ words) h = (refl, all_append (λ b. is_newline b ≡ false) word (flat_map (λ next. 32 ∷ next) words) (word-line word h.0) (spaced-more words h.1))
+spaced-more (word ∷ words) h = (refl, all_append (λ b. is_newline b ≡ false) word (flat_map (λ next. 32 ∷ next) words) h.0 (spaced-more words h.1))
 
-pub spaced-line : (words : List (List ℕ)) → AllByRecursion IsWord words → IsLine (spaced words)
+pub spaced-line : (words : List (List ℕ)) → AllByRecursion IsLine words → IsLine (spaced words)
 spaced-line [] h = tt
-spaced-line (word ∷ words) h = all_append (λ b. is_newline b ≡ false) word (flat_map (λ next. 32 ∷ next) words) (word-line word h.0) (spaced-more words h.1)
+spaced-line (word ∷ words) h = all_append (λ b. is_newline b ≡ false) word (flat_map (λ next. 32 ∷ next) words) h.0 (spaced-more words h.1)
 
 -- ---- numbers are words
 
@@ -125,11 +125,14 @@ pub number-first : (n : ℕ) (rest : List ℕ) → IsUnsigned n → is_header (d
 number-first n rest low = let w = decimal-writes n (omega (arith, low)) in digits-first (decimal n) rest w.some w.digits
 
 pub words-body : (n : ℕ) (words : List (List ℕ)) → IsUnsigned n → AllByRecursion IsWord words → IsBodyLine (spaced (decimal n ∷ words))
-words-body n words low h = record { one_line = spaced-line (decimal n ∷ words) (decimal-word n low, h); no_header = number-first n (flat_map (λ next. 32 ∷ next) words) low }
+words-body n words low h = record { one_line = spaced-line (decimal n ∷ words) (all_weaker IsWord IsLine word-line (decimal n ∷ words) (decimal-word n low, h)); no_header = number-first n (flat_map (λ next. 32 ∷ next) words) low }
+
+pub count-body : (n : ℕ) → IsUnsigned n → IsBodyLine (decimal n)
+count-body n low = record { one_line = word-line (decimal n) (decimal-word n low); no_header = ap is_header (sym (append-nil (decimal n))) ∙ number-first n [] low }
 
 -- ---- quoted texts
 
-one-line : (text : List ℕ) → IsOneLine text → IsLine text
+pub one-line : (text : List ℕ) → IsOneLine text → IsLine text
 one-line [] h = tt
 one-line (b ∷ bs) h = let both = or_parts (is_newline b) (list_any is_newline bs) h in (both.0, one-line bs both.1)
 
