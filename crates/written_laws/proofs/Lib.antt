@@ -4,3 +4,4 @@ pub mod WrittenLines
 pub mod WrittenBodies
 pub mod WrittenFields
 pub mod WrittenFiles
+pub mod WrittenRows

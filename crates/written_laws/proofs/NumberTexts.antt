@@ -1,28 +1,25 @@
 -- The decimal texts of numbers are read back.
-use Rattle.std.proofs.Common.{◌≡◌, ℕ, zero, suc, ◌+◌, ◌-◌, ◌*◌, ◌/◌, ◌%◌, ◌^◌, ◌<◌, ◌≤◌, Bool, true, false, cond, not, ◌&&◌, ◌||◌, ◌==◌, nat_le, List, [], ◌∷◌, ◌++◌, map, length, get_or, take, drop, ℤ, pos, negsuc, Ok, Err, refl, sym, ap, ap₂, ◌∙◌, subst, arith, length-append, append-nil}
-use Rattle.std.specs.Prelude.{Result, Option, Some, None, neg_ℤ, nat_abs, ◌+ℤ◌, ◌-ℤ◌, decimal}
+use Rattle.std.proofs.Common.{◌≡◌, ℕ, zero, suc, ◌+◌, ◌-◌, ◌*◌, ◌/◌, ◌%◌, ◌^◌, ◌<◌, ◌≤◌, Bool, true, false, cond, not, ◌&&◌, ◌||◌, ◌==◌, nat_le, List, [], ◌∷◌, ◌++◌, map, length, take, drop, ℤ, pos, negsuc, Ok, Err, refl, sym, ap, ap₂, ◌∙◌, arith, length-append, append-nil}
+use Rattle.std.specs.Prelude.{Option, Some, None, neg_ℤ, ◌+ℤ◌, ◌-ℤ◌, decimal}
 use Rattle.std.specs.Fmt.{signed_decimal}
-use Rattle.std.specs.Str.Parse.{AllDigits, digits_value}
+use Rattle.std.specs.Str.Parse.{AllDigits}
 use Rattle.std.specs.Char.{digit_value}
-use Rattle.std.specs.Int.{IsInRange}
 use Rattle.std.specs.Int.Digits.{number_from_digits_after, number_from_digits}
 use Rattle.std.specs.List.{AllByRecursion, list_all, list_any, before_first, after_first, position_or_len}
-use Rattle.std.proofs.lemmas.Bool.{le-leb, ne_eqb, eqb-true, eqb-false}
+use Rattle.std.proofs.lemmas.Bool.{le-leb, ne_eqb, eqb-true}
 use Rattle.std.proofs.lemmas.Int.{ints}
 use Rattle.std.proofs.lemmas.Int.Digits.{digits_value_is, number_after_append}
 use Rattle.std.proofs.lemmas.Fmt.{decimal_is_IsNumeral}
 use Rattle.std.proofs.lemmas.Str.{digit_value_digit}
 use Rattle.std.proofs.lemmas.Str.Parse.{digit_from_value}
 use Rattle.std.proofs.lemmas.List.{take-append-le, map-append, length-map}
-use Rattle.std.proofs.Math.Nat.{pow-zero, pow-suc, pow-succ', mul_assoc, mul_comm, add-mul, mul-zero, zero-mul, div-add-mod', mod-lt, div-lt_iff_lt-mul, one-le-pow}
-use Rattle.std.proofs.Math.Seq.{take-length, drop-length, drop-append-add}
+use Rattle.std.proofs.Math.Nat.{pow-zero, pow-succ', mul_assoc, add-mul, zero-mul, div-add-mod', mod-lt, div-lt_iff_lt-mul, one-le-pow}
+use Rattle.std.proofs.Math.Seq.{take-length, drop-append-add}
 use Rattle.std.proofs.Math.ListN.{drop_of_length-le}
 use Rattle.plain_lists.proofs.Each.{all_weaker, all_append}
-use Rattle.plain_lists.proofs.Filters.{map_same}
 use Rattle.line_defs.specs.Numbers.{is_digit, number_of_digits, fraction_digits, unsigned_fixed_text, fixed_text}
-use Rattle.scan_defs.specs.declared.NumberFault.{NumberFault}
 use Rattle.scan_defs.specs.declared.NumberFault.TheVariants.{NotNumber, OutOfRange}
-use Rattle.scan_defs.specs.Numbers.{Decimal, is_whole, is_sign, is_minus, without_sign, with_sign, is_mark, is_decimal_point, mantissa, exponent, has_exponent, whole_part, fraction, is_fixed, power, uint_of, int_of, scaled, magnitude, fixed_value, fixed_where, fixed_of, decimal_of}
+use Rattle.scan_defs.specs.Numbers.{Decimal, is_whole, is_minus, without_sign, with_sign, is_mark, is_decimal_point, mantissa, exponent, has_exponent, whole_part, fraction, uint_of, int_of, scaled, magnitude, fixed_value, fixed_where, fixed_of, decimal_of}
 use Rattle.input_defs.specs.RightContent.{IsUnsigned, IsSigned, IsFixed}
 
 -- ---- digits

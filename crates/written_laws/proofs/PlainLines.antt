@@ -1,7 +1,7 @@
 -- A file is read by the texts and numbers of its lines: its tokens and blocks, with no places in its bytes.
-use Rattle.std.proofs.Common.{◌≡◌, ℕ, zero, suc, ◌+◌, ◌-◌, ◌<◌, ◌≤◌, Bool, true, false, cond, List, [], ◌∷◌, ◌++◌, map, length, take, drop, Option, Some, None, refl, sym, ap, ap₂, ◌∙◌, subst, arith, append_assoc, append-nil, length-append}
+use Rattle.std.proofs.Common.{◌≡◌, ℕ, ◌+◌, ◌-◌, Bool, true, false, cond, List, [], ◌∷◌, ◌++◌, map, length, take, drop, Option, Some, None, refl, sym, ap, ap₂, ◌∙◌, subst, arith, append_assoc, append-nil, length-append}
 use Rattle.std.specs.Prelude.{flat_map, option_map, slice_range}
-use Rattle.std.specs.List.{AllByRecursion, before_first}
+use Rattle.std.specs.List.{AllByRecursion}
 use Rattle.std.proofs.lemmas.Bool.{and_parts, leb-true}
 use Rattle.std.proofs.lemmas.List.{map-append, take-append-le}
 use Rattle.std.proofs.Math.Seq.{take-length, drop-append-add}
@@ -12,7 +12,7 @@ use Rattle.scan_defs.specs.Items.{Item, Header, Word, text_of, is_header, name_o
 use Rattle.scan_defs.specs.Quotes.{is_quoted, quoted_on, line_from}
 use Rattle.input_defs.specs.Bodies.{Lexeme, lexeme_of}
 use Rattle.input_defs.specs.Files.{Block, blocks_of}
-use Rattle.input_laws.proofs.LocalLines.{Ending, Stands, slice-in, rest-in, Within, text-in, file-stands}
+use Rattle.input_laws.proofs.LocalLines.{Stands, slice-in, rest-in, Within, text-in, file-stands}
 use Rattle.input_laws.proofs.LocalBytes.{items-whole}
 use Rattle.written_laws.proofs.NumberTexts.{apart-none}
 

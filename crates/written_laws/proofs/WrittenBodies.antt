@@ -1,6 +1,6 @@
 -- Written bodies are read back: names, nodes and elements.
-use Rattle.std.proofs.Common.{◌≡◌, ℕ, zero, suc, ◌+◌, ◌^◌, ◌<◌, ◌≤◌, Bool, true, false, cond, not, ◌||◌, ◌==◌, nat_le, List, [], ◌∷◌, ◌++◌, map, length, get_or, ℤ, pos, Ok, Err, refl, sym, ap, ap₂, ◌∙◌, subst, arith, append-nil}
-use Rattle.std.specs.Prelude.{Result, Option, Some, None, is_some, nat_eq, decimal, flat_map, find, option_map}
+use Rattle.std.proofs.Common.{◌≡◌, ℕ, ◌+◌, ◌^◌, ◌<◌, ◌≤◌, Bool, true, false, cond, not, ◌||◌, ◌==◌, nat_le, List, [], ◌∷◌, ◌++◌, map, length, get_or, ℤ, pos, Ok, Err, refl, sym, ap, ap₂, ◌∙◌, subst, arith, append-nil}
+use Rattle.std.specs.Prelude.{Result, Some, is_some, nat_eq, decimal, find, option_map}
 use Rattle.std.specs.Fmt.{signed_decimal}
 use Rattle.std.specs.List.{AllByRecursion, IsDistinct}
 use Rattle.std.proofs.lemmas.Bool.{le-leb, ne_eqb, eqb-true}
@@ -16,9 +16,9 @@ use Rattle.input_defs.specs.declared.What.TheVariants as what
 use Rattle.input_defs.specs.declared.MshFault.{MshFault}
 use Rattle.input_defs.specs.declared.MshFault.TheVariants.{BadCount, RepeatedNodeNumber, UnknownNode, RepeatedNode, OutOfRange, TooMany, ElementType}
 use Rattle.input_defs.specs.Causes.{ok_where}
-use Rattle.input_defs.specs.Bodies.{Lexeme, Faults, Reader, give, ◌>>=◌, read_on, many, with_rest, number_where, number, tested, uint, int, fixed, quoted, text_where, after_line, whole, nothing_left}
+use Rattle.input_defs.specs.Bodies.{Lexeme, Faults, Reader, give, ◌>>=◌, read_on, many, with_rest, number_where, number, tested, uint, int, fixed, quoted, text_where, whole, nothing_left}
 use Rattle.input_defs.specs.Sections.{has_number, count, format, name, names, fresh_number, node, nodes_after, nodes, types, poly_of_type, corners_of_type, corner, corners_after, element, elements}
-use Rattle.input_defs.specs.RightContent.{IsUnsigned, IsSigned, IsFixed, IsRightNode, IsKnown, IsRightElement, IsRightName}
+use Rattle.input_defs.specs.RightContent.{IsUnsigned, IsRightNode, IsKnown, IsRightElement, IsRightName}
 use Rattle.written_laws.specs.Written.{spaced, counted, quote, name_line, node_line, element_line, IsOneLine}
 use Rattle.written_laws.proofs.NumberTexts.{uint-back, int-back, fixed-back}
 use Rattle.written_laws.proofs.PlainLines.{lexemes_on}
@@ -120,9 +120,9 @@ name-reads faults n x rest right late =
 pub names-read : (faults : Faults MshFault) (n : ℕ) (xs : List Name) → length xs ≤ 1024 → AllByRecursion IsRightName xs → AllByRecursion (λ (x : Name). IsOneLine x.text) xs → whole BadCount names faults (body_lines n (counted name_line xs)) ≡ Ok xs
 unfolding names
 names-read faults n xs few right plain = ap (nothing_left BadCount) (
-  then-ok (count 1024 what.Names) (λ k. many k name) faults (body_lines n (counted name_line xs)) (body_lines (n + 1) (map name_line xs)) (length xs) (count-reads 1024 what.Names n (length xs) faults (body_lines (n + 1) (map name_line xs)) few (omega arith))
-  ∙ many-lines (λ x. IsRightName x × IsOneLine x.text) name name_line faults (name-reads faults) (n + 1) xs (all_both IsRightName (λ x. IsOneLine x.text) (λ x. IsRightName x × IsOneLine x.text) (λ x a b. (a, b)) xs right plain)
-)
+    then-ok (count 1024 what.Names) (λ k. many k name) faults (body_lines n (counted name_line xs)) (body_lines (n + 1) (map name_line xs)) (length xs) (count-reads 1024 what.Names n (length xs) faults (body_lines (n + 1) (map name_line xs)) few (omega arith))
+    ∙ many-lines (λ x. IsRightName x × IsOneLine x.text) name name_line faults (name-reads faults) (n + 1) xs (all_both IsRightName (λ x. IsOneLine x.text) (λ x. IsRightName x × IsOneLine x.text) (λ x a b. (a, b)) xs right plain)
+    )
 
 -- ---- nodes
 
@@ -180,9 +180,9 @@ nodes-after-read faults earlier n (x ∷ xs) right fresh differ =
 pub nodes-read : (faults : Faults MshFault) (n : ℕ) (xs : List Node) → length xs ≤ 500000 → AllByRecursion IsRightNode xs → IsDistinct nat_eq (map (λ (x : Node). x.number) xs) → whole BadCount nodes faults (body_lines n (counted node_line xs)) ≡ Ok xs
 unfolding nodes
 nodes-read faults n xs few right differ = ap (nothing_left BadCount) (
-  then-ok (count 500000 what.Nodes) (λ k. nodes_after [] k) faults (body_lines n (counted node_line xs)) (body_lines (n + 1) (map node_line xs)) (length xs) (count-reads 500000 what.Nodes n (length xs) faults (body_lines (n + 1) (map node_line xs)) few (omega arith))
-  ∙ nodes-after-read faults [] (n + 1) xs right (all_from (λ m. has_number [] m ≡ false) (λ m. refl) (map (λ (x : Node). x.number) xs)) differ
-)
+    then-ok (count 500000 what.Nodes) (λ k. nodes_after [] k) faults (body_lines n (counted node_line xs)) (body_lines (n + 1) (map node_line xs)) (length xs) (count-reads 500000 what.Nodes n (length xs) faults (body_lines (n + 1) (map node_line xs)) few (omega arith))
+    ∙ nodes-after-read faults [] (n + 1) xs right (all_from (λ m. has_number [] m ≡ false) (λ m. refl) (map (λ (x : Node). x.number) xs)) differ
+    )
 
 -- ---- elements
 
@@ -281,7 +281,7 @@ element-reads faults known n x rest low right =
 pub elements-read : (faults : Faults MshFault) (known : List ℕ) (n : ℕ) (xs : List Element) → AllByRecursion IsUnsigned known → length xs ≤ 1000000 → AllByRecursion (IsRightElement known) xs → whole BadCount (elements known) faults (body_lines n (counted element_line xs)) ≡ Ok xs
 unfolding elements
 elements-read faults known n xs low few right = ap (nothing_left BadCount) (
-  then-ok (count 1000000 what.Elements) (λ k. many k (element known)) faults (body_lines n (counted element_line xs)) (body_lines (n + 1) (map element_line xs)) (length xs)
-      (count-reads 1000000 what.Elements n (length xs) faults (body_lines (n + 1) (map element_line xs)) few (omega arith))
-  ∙ many-lines (IsRightElement known) (element known) element_line faults (λ m x rest h late. element-reads faults known m x rest low h) (n + 1) xs right
-)
+    then-ok (count 1000000 what.Elements) (λ k. many k (element known)) faults (body_lines n (counted element_line xs)) (body_lines (n + 1) (map element_line xs)) (length xs)
+    (count-reads 1000000 what.Elements n (length xs) faults (body_lines (n + 1) (map element_line xs)) few (omega arith))
+    ∙ many-lines (IsRightElement known) (element known) element_line faults (λ m x rest h late. element-reads faults known m x rest low h) (n + 1) xs right
+    )

@@ -1,8 +1,7 @@
 -- Written data sections are read back.
-use Rattle.std.proofs.Common.{◌≡◌, ◌⊎◌, ℕ, zero, suc, ◌+◌, ◌-◌, ◌^◌, ◌<◌, ◌≤◌, Bool, true, false, cond, ◌||◌, ◌==◌, nat_le, List, [], ◌∷◌, ◌++◌, map, length, get_or, ℤ, pos, Ok, Err, refl, sym, ap, ap₂, ◌∙◌, subst, arith, ⊎_elim}
-use Rattle.std.specs.Prelude.{Result, Some, decimal, codes}
+use Rattle.std.proofs.Common.{◌≡◌, ℕ, ◌+◌, ◌-◌, ◌<◌, ◌≤◌, nat_le, List, [], ◌∷◌, ◌++◌, map, length, get_or, pos, Ok, refl, sym, ap, ◌∙◌, subst, arith, ⊎_elim}
+use Rattle.std.specs.Prelude.{Result, decimal, codes}
 use Rattle.std.specs.List.{AllByRecursion}
-use Rattle.std.proofs.lemmas.Bool.{le-leb}
 use Rattle.std.proofs.lemmas.Int.{ints}
 use Rattle.plain_lists.proofs.Each.{all_weaker, all_map}
 use Rattle.line_defs.specs.Numbers.{fixed_text}
@@ -10,17 +9,17 @@ use Rattle.mesh_defs.specs.declared.Place.{Place}
 use Rattle.mesh_defs.specs.Mesh.{Row, Section}
 use Rattle.scan_defs.specs.Numbers.{uint_of, int_of, fixed_of}
 use Rattle.input_defs.specs.declared.DataFault.{DataFault}
-use Rattle.input_defs.specs.declared.DataFault.TheVariants.{BadCount, Components, UnknownNumber}
+use Rattle.input_defs.specs.declared.DataFault.TheVariants.{BadCount, UnknownNumber}
 use Rattle.input_defs.specs.Causes.{ok_where}
 use Rattle.input_defs.specs.Bodies.{Lexeme, Faults, Reader, give, ◌>>=◌, many, tested, uint, int, fixed, quoted, nothing_left}
 use Rattle.input_defs.specs.Sections.{has_number}
 use Rattle.input_defs.specs.DataSections.{faults_at, real, comps_on, rows_on, row, section, section_of}
-use Rattle.input_defs.specs.RightContent.{IsUnsigned, IsFixed, IsKnown, IsComponents, IsRightDataRow}
-use Rattle.written_laws.specs.Written.{spaced, counted, quote, row_line, field_lines, IsOneLine}
+use Rattle.input_defs.specs.RightContent.{IsUnsigned, IsFixed, IsComponents, IsRightDataRow}
+use Rattle.written_laws.specs.Written.{spaced, counted, quote, row_line, field_lines}
 use Rattle.written_laws.proofs.NumberTexts.{uint-back, int-back, fixed-back}
 use Rattle.written_laws.proofs.PlainLines.{lexemes_on}
-use Rattle.written_laws.proofs.WrittenLines.{IsWord, decimal-word, fixed-word, lexeme, lexemes-last, word_lexemes, words-plain, Quoted, quote-lexemes, AreLater, body_lines, body-later}
-use Rattle.written_laws.proofs.WrittenBodies.{then-ok, tested-reads, number-reads, where-true, many-numbers, many-lines, count-line, quoted-reads, known-low}
+use Rattle.written_laws.proofs.WrittenLines.{IsWord, decimal-word, fixed-word, lexeme, lexemes-last, word_lexemes, words-plain, Quoted, quote-lexemes, body_lines, body-later}
+use Rattle.written_laws.proofs.WrittenBodies.{then-ok, tested-reads, where-true, many-numbers, many-lines, count-line, quoted-reads, known-low}
 
 abbrev row_test : List ℕ → ℕ → ℕ → Result ℕ DataFault
 row_test known line n = ok_where (has_number known n) n (UnknownNumber line n)
@@ -82,19 +81,19 @@ pub section-reads : (known : List ℕ) (end n : ℕ) (x : Section) → AllByRecu
     → section_of x.on known end (body_lines n (field_lines x)) ≡ Ok x
 unfolding section_of section uint_of int_of
 section-reads known end n x low comps rows few = ap (nothing_left BadCount) (
-  ap (λ ws. (many 1 quoted >>= with_strings x.on known) faults (ws ++ after_name)) q.whole
-  ∙ then-ok (many 1 quoted) (with_strings x.on known) faults (q.first ∷ (q.others ++ after_name)) after_name (x.name ∷ [])
-      (then-ok quoted (λ y. many 0 quoted >>= (λ ys. give (y ∷ ys))) faults (q.first ∷ (q.others ++ after_name)) after_name x.name
-      (quoted-reads faults (n + 1) x.name q.first q.others after_name q.quoted q.on_line q.others_on_line (body-later (n + 1) (n + 1 + 1) (codes "0" ∷ codes "3" ∷ codes "0" ∷ decimal x.comps ∷ counted row_line x.rows) (omega arith))))
-  ∙ ap (λ ws. with_comps x.on known (x.name ∷ []) 3 faults (ws ++ after_comps)) (lexemes-last (n + 1 + 1 + 1 + 1 + 1) (decimal x.comps) (decimal-word x.comps comps_low))
-  ∙ then-ok (tested int_of comps_on) (with_row_count x.on known (x.name ∷ []) 3) faults (lexeme (n + 1 + 1 + 1 + 1 + 1) (decimal x.comps) (decimal x.comps) ∷ after_comps) after_comps x.comps
-      (tested-reads int_of comps_on faults (lexeme (n + 1 + 1 + 1 + 1 + 1) (decimal x.comps) (decimal x.comps)) after_comps (pos x.comps) x.comps (count-int x.comps (omega (arith, components-low x.comps comps))) (components-pass (n + 1 + 1 + 1 + 1 + 1) x.comps comps))
-  ∙ ap (with_row_count x.on known (x.name ∷ []) 3 x.comps faults) (count-line (n + 1 + 1 + 1 + 1 + 1 + 1) (length x.rows) after_count count_low)
-  ∙ then-ok (tested int_of rows_on) (λ row_count. many 0 int >>= (λ further. with_rows x.on known (x.name ∷ []) x.comps row_count)) faults (lexeme (n + 1 + 1 + 1 + 1 + 1 + 1) (decimal (length x.rows)) (decimal (length x.rows)) ∷ after_count) after_count (length x.rows)
-      (tested-reads int_of rows_on faults (lexeme (n + 1 + 1 + 1 + 1 + 1 + 1) (decimal (length x.rows)) (decimal (length x.rows))) after_count (pos (length x.rows)) (length x.rows) (count-int (length x.rows) few) refl)
-  ∙ then-ok (many (length x.rows) (row known x.comps)) (λ rs. give (record { on = x.on; name = x.name; comps = x.comps; rows = rs })) faults after_count [] x.rows
-      (many-lines (IsRightDataRow known x.comps) (row known x.comps) row_line faults (λ m r rest h late. row-reads faults known x.comps m r rest low h) (n + 1 + 1 + 1 + 1 + 1 + 1 + 1) x.rows rows)
-)
+    ap (λ ws. (many 1 quoted >>= with_strings x.on known) faults (ws ++ after_name)) q.whole
+    ∙ then-ok (many 1 quoted) (with_strings x.on known) faults (q.first ∷ (q.others ++ after_name)) after_name (x.name ∷ [])
+    (then-ok quoted (λ y. many 0 quoted >>= (λ ys. give (y ∷ ys))) faults (q.first ∷ (q.others ++ after_name)) after_name x.name
+    (quoted-reads faults (n + 1) x.name q.first q.others after_name q.quoted q.on_line q.others_on_line (body-later (n + 1) (n + 1 + 1) (codes "0" ∷ codes "3" ∷ codes "0" ∷ decimal x.comps ∷ counted row_line x.rows) (omega arith))))
+    ∙ ap (λ ws. with_comps x.on known (x.name ∷ []) 3 faults (ws ++ after_comps)) (lexemes-last (n + 1 + 1 + 1 + 1 + 1) (decimal x.comps) (decimal-word x.comps comps_low))
+    ∙ then-ok (tested int_of comps_on) (with_row_count x.on known (x.name ∷ []) 3) faults (lexeme (n + 1 + 1 + 1 + 1 + 1) (decimal x.comps) (decimal x.comps) ∷ after_comps) after_comps x.comps
+    (tested-reads int_of comps_on faults (lexeme (n + 1 + 1 + 1 + 1 + 1) (decimal x.comps) (decimal x.comps)) after_comps (pos x.comps) x.comps (count-int x.comps (omega (arith, components-low x.comps comps))) (components-pass (n + 1 + 1 + 1 + 1 + 1) x.comps comps))
+    ∙ ap (with_row_count x.on known (x.name ∷ []) 3 x.comps faults) (count-line (n + 1 + 1 + 1 + 1 + 1 + 1) (length x.rows) after_count count_low)
+    ∙ then-ok (tested int_of rows_on) (λ row_count. many 0 int >>= (λ further. with_rows x.on known (x.name ∷ []) x.comps row_count)) faults (lexeme (n + 1 + 1 + 1 + 1 + 1 + 1) (decimal (length x.rows)) (decimal (length x.rows)) ∷ after_count) after_count (length x.rows)
+    (tested-reads int_of rows_on faults (lexeme (n + 1 + 1 + 1 + 1 + 1 + 1) (decimal (length x.rows)) (decimal (length x.rows))) after_count (pos (length x.rows)) (length x.rows) (count-int (length x.rows) few) refl)
+    ∙ then-ok (many (length x.rows) (row known x.comps)) (λ rs. give (record { on = x.on; name = x.name; comps = x.comps; rows = rs })) faults after_count [] x.rows
+    (many-lines (IsRightDataRow known x.comps) (row known x.comps) row_line faults (λ m r rest h late. row-reads faults known x.comps m r rest low h) (n + 1 + 1 + 1 + 1 + 1 + 1 + 1) x.rows rows)
+    )
   where
     faults : Faults DataFault
     faults = faults_at end

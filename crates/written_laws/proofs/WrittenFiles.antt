@@ -1,18 +1,18 @@
 -- A written file is read back, section by section.
-use Rattle.std.proofs.Common.{◌≡◌, ℕ, zero, suc, ◌+◌, ◌<◌, ◌≤◌, Bool, true, false, cond, not, ◌==◌, nat_le, List, [], ◌∷◌, ◌++◌, map, length, ℤ, pos, Option, Some, None, Ok, Err, refl, sym, ap, ap₂, ◌∙◌, subst, arith, append_assoc, append-nil, length-append}
-use Rattle.std.specs.Prelude.{Result, is_some, decimal, codes, flat_map, nat_eq}
+use Rattle.std.proofs.Common.{◌≡◌, ℕ, ◌+◌, ◌<◌, ◌≤◌, true, false, cond, List, [], ◌∷◌, ◌++◌, map, length, ℤ, Some, None, Ok, Err, refl, sym, ap, ◌∙◌, subst, arith, append_assoc, append-nil, length-append}
+use Rattle.std.specs.Prelude.{Result, decimal, codes, flat_map}
 use Rattle.std.specs.Fmt.{signed_decimal}
-use Rattle.std.specs.List.{AllByRecursion, IsDistinct, list_any}
+use Rattle.std.specs.List.{AllByRecursion, list_any}
 use Rattle.std.proofs.lemmas.Bool.{lt-leb}
 use Rattle.plain_lists.specs.Lists.{same_list}
 use Rattle.plain_lists.proofs.Each.{all_weaker, all_both, all_append, all_map, all_flat_map}
-use Rattle.line_defs.specs.Rows.{is_newline, lines_of}
+use Rattle.line_defs.specs.Rows.{is_newline}
 use Rattle.line_defs.specs.Numbers.{fixed_text}
 use Rattle.mesh_defs.specs.declared.Place.{Place}
 use Rattle.mesh_defs.specs.declared.Place.TheVariants as place
 use Rattle.mesh_defs.specs.Mesh.{Name, Row, Section}
 use Rattle.scan_defs.specs.Lines.{line_number}
-use Rattle.scan_defs.specs.Items.{is_header, items}
+use Rattle.scan_defs.specs.Items.{is_header}
 use Rattle.input_defs.specs.Content.{Node, Element, Content}
 use Rattle.input_defs.specs.declared.MshFault.{MshFault}
 use Rattle.input_defs.specs.declared.MshFault.TheVariants.{Unclosed, TooMany}
@@ -21,9 +21,9 @@ use Rattle.input_defs.specs.Causes.{◌>>=◌, map_ok, first_cause, unless}
 use Rattle.input_defs.specs.Bodies.{Lexeme}
 use Rattle.input_defs.specs.Sections.{faults_of}
 use Rattle.input_defs.specs.DataSections.{section_of}
-use Rattle.input_defs.specs.Files.{Block, blocks_of, Known, Format, Names, Nodes, Elements, Data, known, closing, closes, Parts, nothing, misplaced, unfinished, file_numbers, of_data, with_section, ending_line, cut_short, Expected, Opening, Closing, begun, with_block, content_of, finished, said, content}
-use Rattle.input_defs.specs.RightContent.{IsUnsigned, IsSigned, IsFixed, IsRightNode, IsRightElement, IsRightName, IsRightDataRow, IsRightField, IsRight, node_numbers, element_numbers, numbers_on, IsKnown}
-use Rattle.written_laws.specs.Written.{spaced, as_text, section_lines, counted, quote, name_line, node_line, element_line, row_line, field_lines, data_name, field_section, file_lines, file_of, IsOneLine, IsWritable}
+use Rattle.input_defs.specs.Files.{Block, Known, Format, Names, Nodes, Elements, Data, known, closing, Parts, nothing, misplaced, unfinished, file_numbers, of_data, with_section, ending_line, cut_short, Expected, Opening, Closing, begun, with_block, said, content}
+use Rattle.input_defs.specs.RightContent.{IsUnsigned, IsFixed, IsRightNode, IsRightElement, IsRightName, IsRightDataRow, IsRightField, IsRight, node_numbers, numbers_on, IsKnown}
+use Rattle.written_laws.specs.Written.{as_text, section_lines, counted, quote, name_line, node_line, element_line, row_line, field_lines, data_name, field_section, file_lines, file_of, IsOneLine, IsWritable}
 use Rattle.written_laws.proofs.PlainLines.{IsLine, name_in, body_in, blocks_in, blocks-of-lines}
 use Rattle.written_laws.proofs.WrittenLines.{lines-back, IsWord, word-line, decimal-word, signed-word, fixed-word, spaced-line, IsBodyLine, number-first, words-body, count-body, one-line, quote-line, quote-body, body_lines, body-up_to, blocks-past}
 use Rattle.written_laws.proofs.WrittenBodies.{format-reads, names-read, nodes-read, elements-read, known-low, kind-low}
@@ -115,9 +115,16 @@ node-body : (x : Node) → IsRightNode x → IsBodyLine (node_line x)
 node-body x right = words-body x.number (map fixed_text x.at) right.number (fixed-words x.at right.in_range)
 
 element-body : (numbers : List ℕ) (x : Element) → AllByRecursion IsUnsigned numbers → IsRightElement numbers x → IsBodyLine (element_line x)
-element-body numbers x low right = words-body x.number (decimal x.kind ∷ decimal 1 ∷ signed_decimal x.physical ∷ map decimal x.nodes) right.number
-    (decimal-word x.kind (kind-low x.kind right.kind), (decimal-word 1 (omega arith), (signed-word x.physical right.physical,
-    all_map IsWord decimal x.nodes (all_weaker (IsKnown numbers) (λ v. IsWord (decimal v)) (λ v h. decimal-word v (known-low numbers v low h)) x.nodes right.nodes_known))))
+element-body numbers x low right = words-body x.number (decimal x.kind ∷ decimal 1 ∷ signed_decimal x.physical ∷ map decimal x.nodes) right.number (
+  decimal-word x.kind (kind-low x.kind right.kind),
+  (
+    decimal-word 1 (omega arith),
+    (
+      signed-word x.physical right.physical,
+      all_map IsWord decimal x.nodes (all_weaker (IsKnown numbers) (λ v. IsWord (decimal v)) (λ v h. decimal-word v (known-low numbers v low h)) x.nodes right.nodes_known),
+    ),
+  ),
+)
 
 row-body : (numbers : List ℕ) (comps : ℕ) (x : Row) → AllByRecursion IsUnsigned numbers → IsRightDataRow numbers comps x → IsBodyLine (row_line x)
 row-body numbers comps x low right = words-body x.number (map fixed_text x.values) (known-low numbers x.number low right.number) (fixed-words x.values right.in_range)
@@ -125,12 +132,22 @@ row-body numbers comps x low right = words-body x.number (map fixed_text x.value
 field-body : (c : Content) (x : Section) → IsRight c → IsRightField c x → IsOneLine x.name → length x.rows < 2147483648 → AllByRecursion IsBodyLine (field_lines x)
 field-body c x all right plain few = (
   literal-body (codes "1") refl refl,
-  (quote-body x.name plain,
-  (literal-body (codes "0") refl refl,
-  (literal-body (codes "3") refl refl,
-  (literal-body (codes "0") refl refl,
-  (count-body x.comps (let most = components-low x.comps right.comps in omega arith),
-  counted-body row_line x.rows (omega (arith, few)) (all_weaker (IsRightDataRow (numbers_on c x.on) x.comps) (λ r. IsBodyLine (row_line r)) (λ r. row-body (numbers_on c x.on) x.comps r (numbers-low c all x.on)) x.rows right.rows))))))
+  (
+    quote-body x.name plain,
+    (
+      literal-body (codes "0") refl refl,
+      (
+        literal-body (codes "3") refl refl,
+        (
+          literal-body (codes "0") refl refl,
+          (
+            count-body x.comps (let most = components-low x.comps right.comps in omega arith),
+            counted-body row_line x.rows (omega (arith, few)) (all_weaker (IsRightDataRow (numbers_on c x.on) x.comps) (λ r. IsBodyLine (row_line r)) (λ r. row-body (numbers_on c x.on) x.comps r (numbers-low c all x.on)) x.rows right.rows),
+          ),
+        ),
+      ),
+    ),
+  ),
 )
 
 section-plain : (name : List ℕ) (k : Known) (body : List (List ℕ)) → IsNamed name k → AllByRecursion IsBodyLine body → AllByRecursion IsLine (section_lines name body)

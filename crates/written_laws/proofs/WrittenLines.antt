@@ -1,6 +1,6 @@
 -- Written lines, cut into their words again.
-use Rattle.std.proofs.Common.{◌≡◌, ℕ, zero, suc, ◌+◌, ◌-◌, ◌<◌, ◌≤◌, Bool, true, false, cond, ◌&&◌, ◌||◌, ◌==◌, nat_le, List, [], ◌∷◌, ◌++◌, map, length, get_or, take, drop, ℤ, pos, negsuc, refl, sym, ap, ap₂, ◌∙◌, subst, arith, append_assoc, append-nil, length-append}
-use Rattle.std.specs.Prelude.{Option, Some, None, decimal, flat_map, nat_abs, slice_range, reverse}
+use Rattle.std.proofs.Common.{◌≡◌, ℕ, suc, ◌+◌, ◌-◌, ◌<◌, ◌≤◌, Bool, true, false, cond, ◌&&◌, ◌||◌, ◌==◌, nat_le, List, [], ◌∷◌, ◌++◌, length, get_or, take, drop, ℤ, pos, negsuc, refl, sym, ap, ap₂, ◌∙◌, arith, append_assoc, append-nil, length-append}
+use Rattle.std.specs.Prelude.{Some, None, decimal, flat_map, slice_range}
 use Rattle.std.specs.Fmt.{signed_decimal}
 use Rattle.std.specs.List.{AllByRecursion, prefix_len, list_any}
 use Rattle.std.proofs.lemmas.Bool.{le-leb, lt-ltb, eq-eqb, ne_eqb, or_parts}
@@ -9,10 +9,9 @@ use Rattle.std.proofs.lemmas.List.{take-append-le, reverse-append}
 use Rattle.std.proofs.Math.Seq.{take-length, get_or-append_seam}
 use Rattle.plain_lists.proofs.Each.{all_weaker, all_append}
 use Rattle.line_defs.specs.Rows.{is_blank, is_newline, parts, onto_first, lines_of, is_some_bytes}
-use Rattle.line_defs.specs.Numbers.{fraction_digits, unsigned_fixed_text, fixed_text}
+use Rattle.line_defs.specs.Numbers.{fixed_text}
 use Rattle.scan_defs.specs.Lines.{front, back}
 use Rattle.scan_defs.specs.Items.{is_header}
-use Rattle.scan_defs.specs.Quotes.{is_quoted}
 use Rattle.input_defs.specs.Bodies.{Lexeme, after_line}
 use Rattle.input_defs.specs.RightContent.{IsUnsigned, IsSigned, IsFixed}
 use Rattle.written_laws.specs.Written.{spaced, as_text, quote, IsOneLine}

@@ -1,6 +1,6 @@
 -- A content written out as a mesh file, after the MSH format 2.2 of the Gmsh manual: each section with its count, and one
 -- node, element, name or row on each line.
-use Rattle.std.specs.Prelude.{◌≡◌, ℕ, ◌+◌, ◌<◌, false, List, [], ◌∷◌, ◌++◌, length, map, flat_map, codes, pos, decimal}
+use Rattle.std.specs.Prelude.{◌≡◌, ℕ, ◌<◌, false, List, [], ◌∷◌, ◌++◌, length, map, flat_map, codes, decimal}
 use Rattle.std.specs.Fmt.{signed_decimal}
 use Rattle.std.specs.List.{AllByRecursion, list_any}
 use Rattle.line_defs.specs.Rows.{is_newline}
