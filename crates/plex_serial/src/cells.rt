@@ -7,8 +7,8 @@ ghost use Rattle.triangle_defs.specs.Triangles.{vertex_of};
 ghost use Rattle.triangle_laws.specs.TriangleMesh.{IsTriangleContent};
 ghost use Rattle.plex_serial.specs.Corners.{AreCounted, positions_at};
 
-use triangle_reader::MshText;
 use std::alloc::{AllocError, Global};
+use triangle_reader::MshText;
 
 /// The corners of each cell, where `positions` has the position of each node.
 pub(crate) fn cells_of(

@@ -9,9 +9,9 @@ use crate::joining::{Joined, join};
 use crate::keys::keys_of;
 use crate::serial_mesh::SerialMesh;
 use crate::vertices::{Vertices, number_vertices, used_nodes};
-use triangle_reader::MshText;
 use plex_base::NoMemory;
 use std::alloc::Global;
+use triangle_reader::MshText;
 
 /// The diagram of a file of triangles, with edges between its cells and vertices: DMPlex's
 /// interpolation.

@@ -8,8 +8,8 @@ ghost use Rattle.triangle_laws.specs.TriangleMesh.{IsTriangleContent};
 ghost use Rattle.plex_serial.specs.Corners.{AreCounted};
 ghost use Rattle.plex_serial.specs.Marks.{flagged};
 
-use triangle_reader::MshText;
 use std::alloc::{AllocError, Global};
+use triangle_reader::MshText;
 
 /// For each node the position that it has among the vertices if it is one, and the coordinates of
 /// the vertices.
