@@ -1,1 +1,3 @@
 pub mod Dim
+pub mod FlatRows
+pub mod DataFields
