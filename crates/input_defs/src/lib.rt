@@ -7,6 +7,8 @@
 
 ghost use Rattle.std.specs.Prelude.{◌≡◌};
 
+mod memory;
+
 /// What is wrong in the body of one data section.
 #[derive(Clone, Copy, Debug, PartialEq, Eq)]
 pub enum DataFault {
