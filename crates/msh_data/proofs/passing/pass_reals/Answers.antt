@@ -1,0 +1,24 @@
+use Rattle.std.proofs.Common.{◌≡◌, ◌+◌, ◌-◌, suc, arith}
+use Rattle.std.proofs.lemmas.Result.{err_from_is_err_and}
+use Rattle.input_defs.specs.Bodies.{many}
+use Rattle.input_defs.specs.DataSections.{real}
+use Rattle.reading_laws.specs.Going.{passed}
+use Rattle.reading_laws.proofs.Going.{resumes-start, drop-step, drop-fault, pass-done}
+use Rattle.msh_data.proofs.passing.pass_reals.Goals as goal
+
+pub loop-init : goal.loop-init
+loop-init c = let whole : c.args.count - 0 ≡ c.args.count = omega arith in rw whole (resumes-start (passed (many c.args.count real)) c.args.scan.now)
+
+pub loop-preserved : goal.loop-preserved
+loop-preserved c =
+    let one : c.args.count - c.loop.counter ≡ suc (c.args.count - (c.loop.counter + 1)) = omega arith in
+    drop-step real _ _ one c.loop.invariant c.in_ok-pass_real.ensures
+
+pub returns : goal.returns
+returns c = let none : c.args.count - c.loop.counter ≡ 0 = omega arith in pass-done real _ none c.loop.invariant
+
+pub returns-in_err-pass_real : goal.returns-in_err-pass_real
+returns-in_err-pass_real c =
+    let p = err_from_is_err_and c.from_residual.result c.from_residual.ensures.1 in
+    let one : c.args.count - c.loop.counter ≡ suc (c.args.count - (c.loop.counter + 1)) = omega arith in
+    rw (p.1, p.2) (drop-fault real _ _ one c.loop.invariant c.in_err-pass_real.ensures)

@@ -1,0 +1,8 @@
+use Rattle.std.proofs.Common.{◌-◌}
+use Rattle.input_defs.specs.Bodies.{many}
+use Rattle.input_defs.specs.DataSections.{real}
+use Rattle.reading_laws.specs.Going.{passed, Resumes}
+use Rattle.msh_data.proofs.passing.pass_reals.Given as goal
+
+abbrev pub invariant-loop : goal.invariant-loop
+invariant-loop l = Resumes (passed (many l.count real)) l.fn.scan (passed (many (l.count - l.counter) real)) l.scan

@@ -1,0 +1,7 @@
+use Rattle.std.proofs.Common.{◌-◌}
+use Rattle.input_defs.specs.Bodies.{fixed}
+use Rattle.reading_laws.specs.Going.{onto, Resumes}
+use Rattle.msh_data.proofs.rows.append_values.Given as goal
+
+abbrev pub invariant-loop : goal.invariant-loop
+invariant-loop l = Resumes (onto (λ _. fixed) l.fn.values.items l.count) l.fn.scan (onto (λ _. fixed) l.values.items (l.count - l.counter)) l.scan
