@@ -1,0 +1,24 @@
+use Rattle.std.proofs.Common.{◌≡◌, ◌+◌, ◌-◌, suc, arith}
+use Rattle.std.proofs.lemmas.Result.{err_from_is_err_and}
+use Rattle.scan_defs.specs.Numbers.{int_of}
+use Rattle.input_defs.specs.Bodies.{many, int}
+use Rattle.reading_laws.specs.Going.{passed}
+use Rattle.msh_reader.proofs.Going.{resumes-start, pass-step, pass-fault, pass-done, goes-number, goes-no_number}
+use Rattle.msh_reader.proofs.numbers.pass_ints.Goals as goal
+
+pub loop-init : goal.loop-init
+loop-init c = let whole : c.args.count - 0 ≡ c.args.count = omega arith in rw whole (resumes-start (passed (many c.args.count int)) c.args.scan.now)
+
+pub loop-preserved : goal.loop-preserved
+loop-preserved c =
+    let one : c.args.count - c.loop.counter ≡ suc (c.args.count - (c.loop.counter + 1)) = omega arith in
+    pass-step int _ _ one c.loop.invariant (goes-number int_of c.in_ok-int.ensures)
+
+pub returns : goal.returns
+returns c = let none : c.args.count - c.loop.counter ≡ 0 = omega arith in pass-done int _ none c.loop.invariant
+
+pub returns-in_err-int : goal.returns-in_err-int
+returns-in_err-int c =
+    let p = err_from_is_err_and c.from_residual.result c.from_residual.ensures.1 in
+    let one : c.args.count - c.loop.counter ≡ suc (c.args.count - (c.loop.counter + 1)) = omega arith in
+    rw (p.1, p.2) (pass-fault int _ _ one c.loop.invariant (goes-no_number int_of c.in_err-int.ensures))

@@ -1,0 +1,8 @@
+use Rattle.std.proofs.Common.{◌-◌}
+use Rattle.input_defs.specs.Bodies.{many, int}
+use Rattle.reading_laws.specs.Going.{passed}
+use Rattle.msh_reader.specs.Going.{Resumes}
+use Rattle.msh_reader.proofs.numbers.pass_ints.Given as goal
+
+abbrev pub invariant-loop : goal.invariant-loop
+invariant-loop l = Resumes (passed (many l.count int)) l.fn.scan (passed (many (l.count - l.counter) int)) l.scan

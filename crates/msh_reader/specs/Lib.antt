@@ -1,0 +1,5 @@
+pub mod Going
+pub mod NumberSets
+pub mod Views
+pub mod Headers
+pub mod Taking
