@@ -4,7 +4,7 @@ use Rattle.input_defs.specs.declared.MshFault.{MshFault}
 use Rattle.input_defs.specs.Bodies.{Reader, ◌>>=◌, uint, int}
 use Rattle.reading_laws.specs.Going.{first_of}
 use Rattle.mesh_defs.specs.Mesh.{Name, Section}
-use Rattle.input_defs.specs.Content.{Node, Element}
+use Rattle.input_defs.specs.Content.{Node, Element, Content}
 use Rattle.input_defs.specs.Sections.{corners_of_type}
 use Rattle.plex_base.specs.FlatRows.{with_rows}
 use Rattle.plex_base.specs.DataFields.{section_on}
@@ -33,6 +33,10 @@ field_view f = section_on f.on f.field
 
 abbrev pub field_views : List FileField → List Section
 field_views fields = map field_view fields
+
+-- all that is kept
+abbrev pub text_content : List FileNode → List Element → List FileName → List FileField → Content
+text_content nodes elements names fields = record { nodes = node_views nodes; elements = elements; names = name_views names; fields = field_views fields }
 
 -- ---- elements, whose nodes lie one after the other
 

@@ -1,6 +1,8 @@
 //! Reading a whole mesh file.
 
 ghost use Rattle.std.specs.Prelude.{◌≡◌, ◌≢◌, ◌<◌, ◌≤◌, [], length, option_map, unwrap_or, Some, None, Ok, Err, IfOk, IfErr};
+ghost use Rattle.input_defs.specs.Content.{Content};
+ghost use Rattle.input_defs.specs.RightContent.{IsRight};
 ghost use Rattle.input_defs.specs.Files.{Opening, known, said, finished, content_of, content, Parts as FileParts};
 ghost use Rattle.reading_laws.specs.Lexemes.{lexemes, beyond};
 ghost use Rattle.reading_laws.specs.Blocks.{blocks, last_line};
@@ -53,6 +55,7 @@ fn names_in(alloc: Global, names: Option<Vec<FileName>>) -> Vec<FileName>
 
 /// What was read, as a whole file.
 fn text_of(alloc: Global, parts: Parts) -> MshText
+    requires { IsRight (content_of (parts_view parts)) }
     ensures { result ≡ content_of (parts_view parts) }
 {
     let Parts {
@@ -72,6 +75,7 @@ fn text_of(alloc: Global, parts: Parts) -> MshText
 
 /// What was read, where the file ends on this line.
 fn finish(alloc: Global, parts: Parts, line: u32) -> Result<MshText, MshFault>
+    requires { (c : Content) → finished line Opening (parts_view parts) ≡ Ok c → IsRight c }
     ensures ok { IfOk result (λ text. finished line Opening (parts_view parts) ≡ Ok text) }
     ensures err { IfErr result (λ e. finished line Opening (parts_view parts) ≡ Err e) }
 {

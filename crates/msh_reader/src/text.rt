@@ -2,6 +2,7 @@
 
 ghost use Rattle.std.specs.Prelude.{◌≡◌, ◌<◌, length, Some};
 ghost use Rattle.std.specs.List.{slice_get};
+ghost use Rattle.input_defs.specs.RightContent.{IsRight};
 ghost use Rattle.plex_base.specs.DataFields.{section_on};
 
 use crate::element_list::{ElementList, ElementView};
@@ -45,15 +46,20 @@ impl Model for MshText {
 
     ghost Value = { Content };
 
-    ghost use Rattle.msh_reader.specs.Views.{node_views, name_views, field_views};
+    ghost use Rattle.input_defs.specs.RightContent.{IsRight};
+    ghost use Rattle.msh_reader.specs.Views.{text_content};
 
-    ghost view = { λ t. record { nodes = node_views t.nodes.items; elements = t.elements; names = name_views t.names.items; fields = field_views t.fields.items } };
+    ghost view = { λ t. text_content t.nodes.items t.elements t.names.items t.fields.items };
+
+    ghost invariant = { λ t. IsRight (text_content t.nodes.items t.elements t.names.items t.fields.items) };
 }
 
 impl MshText {
     /// How many nodes there are.
     pub fn nodes(&self) -> usize
-        ensures { result ≡ length self.now.nodes }
+        ensures nodes { result ≡ length self.now.nodes }
+        // What is said of every text: numbers in range and known where they are named, and so on.
+        ensures right { IsRight self.now }
     {
         self.nodes.len()
     }
