@@ -1,11 +1,13 @@
 //! Tests of the crates on which the others stand: keys and dimensions, operations on words, the tables and orientations
-//! of polytopes, and charts with cones.
+//! of polytopes, charts with cones, and labels.
 #![tactic(auto)]
 
 #[cfg(test)]
 mod chart;
 #[cfg(test)]
 mod keys;
+#[cfg(test)]
+mod label;
 #[cfg(test)]
 mod operations;
 #[cfg(test)]
