@@ -1,7 +1,7 @@
 -- Rows of a flat list: how many, one more, and one of them.
 use Rattle.std.proofs.Common.{◌≡◌, ℕ, zero, suc, ◌+◌, ◌-◌, ◌*◌, ◌<◌, ◌≤◌, List, [], ◌∷◌, ◌++◌, length, get_or, take, drop, Some, refl, sym, ap, ap₂, ◌∙◌, arith}
 use Rattle.std.specs.Prelude.{sum_by, slice_range}
-use Rattle.std.specs.List.{slice_get}
+use Rattle.std.specs.List.{AllByRecursion, slice_get}
 use Rattle.std.proofs.lemmas.List.{take-append-le, drop-append-le, length-drop, length-take-le, drop-drop}
 use Rattle.std.proofs.lemmas.List.Sums.{sum_by-cons}
 use Rattle.std.proofs.Math.Seq.{take-length}
@@ -37,6 +37,17 @@ rows-get width make (h ∷ heads) flat (suc i) d below =
     let sums = sum_by-cons width h (take i heads) in
     rows-get width make heads (drop (width h) flat) i d below'
     ∙ ap (λ rest. Some (make (get_or heads i d) (take (width (get_or heads i d)) rest))) (drop-drop (sum_by width (take i heads)) (width h) flat ∙ ap (λ n. drop n flat) (sym sums))
+
+-- each row is as wide as its head says
+pub rows-wide : {H A R : Type 0} (P : R → Type 0) (width : H → ℕ) (make : H → List A → R) → ((head : H) (row : List A) → length row ≡ width head → P (make head row)) → (heads : List H) (flat : List A) → length flat ≡ sum_by width heads
+    → AllByRecursion P (with_rows width make heads flat)
+unfolding with_rows
+rows-wide P width make wide [] flat fits = tt
+rows-wide P width make wide (h ∷ heads) flat fits =
+    let sums = sum_by-cons width h heads in
+    let within : width h ≤ length flat = omega (arith, sums) in
+    let left : length (drop (width h) flat) ≡ sum_by width heads = rw length-drop (omega (arith, sums)) in
+    (wide h (take (width h) flat) (length-take-le (width h) flat within), rows-wide P width make wide heads (drop (width h) flat) left)
 
 -- ---- heads of one width
 

@@ -1,7 +1,8 @@
 //! The values of one data section.
 
 ghost use Rattle.std.specs.Prelude.{◌≡◌, ◌+◌, ◌*◌, ◌<◌, ◌≤◌, length, take, drop, Some};
-ghost use Rattle.std.specs.List.{slice_get};
+ghost use Rattle.std.specs.List.{AllByRecursion, slice_get};
+ghost use Rattle.mesh_defs.specs.Mesh.{Row};
 ghost use Rattle.plex_base.specs.DataFields.{rows_of_values};
 
 use std::marker::Model;
@@ -64,6 +65,9 @@ impl DataField {
     pub fn comps(&self) -> u32
         ensures comps { result ≡ self.now.comps }
         ensures some { 1 ≤ result }
+
+        // What every data section keeps.
+        ensures full { AllByRecursion (λ (row : Row). length row.values ≡ self.now.comps) self.now.rows }
     {
         self.comps
     }
