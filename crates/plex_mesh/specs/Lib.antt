@@ -1,0 +1,4 @@
+pub mod Spans
+pub mod Stored
+pub mod Meshes
+pub mod Right
