@@ -20,6 +20,7 @@ use crate::parts::Parts;
 use crate::text::{FileName, FileNode, MshText};
 use crate::trouble::Trouble;
 use input_defs::MshFault;
+use plex_base::MAX_FILE_BYTES;
 use scan::Scan;
 use std::alloc::Global;
 
@@ -146,7 +147,7 @@ fn take(
 /// The bytes are a file in the MSH format 2.2 of the Gmsh manual, as text. An `Err` is its first
 /// fault, by the order of the bytes, or that memory ran out.
 pub fn read_msh(alloc: Global, bytes: &[u8]) -> Result<MshText, MshFault>
-    requires { length bytes.now ≤ 268435456 }
+    requires { length bytes.now ≤ MAX_FILE_BYTES }
     // What is read is what the file says.
     ensures ok { IfOk result (λ text. content bytes.now ≡ Ok text) }
     // A fault is the first one of the file.
