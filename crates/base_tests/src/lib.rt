@@ -1,5 +1,5 @@
 //! Tests of the crates on which the others stand: keys and dimensions, operations on words, the tables and orientations
-//! of polytopes, charts with cones, and labels.
+//! of polytopes, charts with cones, labels, and accepted meshes.
 #![tactic(auto)]
 
 #[cfg(test)]
@@ -8,6 +8,8 @@ mod chart;
 mod keys;
 #[cfg(test)]
 mod label;
+#[cfg(test)]
+mod mesh;
 #[cfg(test)]
 mod operations;
 #[cfg(test)]

@@ -94,20 +94,6 @@ right-cell m cell h few sound fresh =
       marks = all_weaker (IsOnPoint m) (IsOnPoint after) (mark-grows m (cell ∷ [])) m.marks h.marks;
     }
 
-pub right-mark : (m : Mesh) (mark : Mark) → IsRightSoFar m → IsOnPoint m mark → IsRightSoFar (record m { marks = m.marks ++ mark ∷ [] })
-right-mark m mark h point =
-    let after : Mesh = record m { marks = m.marks ++ mark ∷ [] } in
-    record {
-      dim = h.dim;
-      cells = all_weaker (IsSoundCell m) (IsSoundCell after) (cell-grows m after refl (omega arith)) m.cells h.cells;
-      few_cells = h.few_cells;
-      differ = h.differ;
-      few_vertices = h.few_vertices;
-      three_coordinates = h.three_coordinates;
-      fields = all_weaker (IsRightSection m) (IsRightSection after) (section-grows m after (λ on. elim on as (λ p. count_on m p ≤ count_on after p) [ Node ↦ omega arith | Element ↦ omega arith ])) m.fields h.fields;
-      marks = all_append (IsOnPoint m) m.marks (mark ∷ []) h.marks (point, tt);
-    }
-
 -- a data section of 1, 3 or 9 components with known rows, each as long as it says
 pub right-section : (m : Mesh) (on : Place) (f : FieldRows) → IsComponents f.comps → AreKnownRows m on f.rows → AllByRecursion (λ (row : Row). length row.values ≡ f.comps) f.rows → IsRightSection m (section_on on f)
 right-section m on f some known full = record {

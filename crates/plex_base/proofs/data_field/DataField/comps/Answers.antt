@@ -1,4 +1,4 @@
-use Rattle.std.proofs.Common.{◌≡◌, ℕ, List, ℤ, subst, ◌∙◌, sym, length}
+use Rattle.std.proofs.Common.{◌≡◌, ℕ, subst, ◌∙◌, sym, length}
 use Rattle.std.specs.List.{AllByRecursion}
 use Rattle.mesh_defs.specs.Mesh.{Row}
 use Rattle.plex_base.specs.DataFields.{FieldRows}

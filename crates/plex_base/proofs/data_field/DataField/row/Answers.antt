@@ -1,4 +1,4 @@
-use Rattle.std.proofs.Common.{◌≡◌, ◌<◌, ◌≤◌, ◌+◌, ◌*◌, ℕ, List, ℤ, get_or, take, drop, sym, ap, ap₂, ◌∙◌, length, arith}
+use Rattle.std.proofs.Common.{◌≡◌, ◌<◌, ◌≤◌, ◌+◌, ◌*◌, ℕ, List, ℤ, take, drop, sym, ap, ap₂, ◌∙◌, length, arith}
 use Rattle.std.proofs.lemmas.List.{length-take-le, length-drop}
 use Rattle.mesh_defs.specs.Mesh.{Row}
 use Rattle.std.specs.Prelude.{Option, Some}
