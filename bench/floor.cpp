@@ -1,5 +1,5 @@
-// What a scan of a mesh file costs at least: reading the file, and one pass over its bytes that turns
-// each number into a value. The yardstick of bench/run for scan_count.
+// What reading a mesh file costs at least: the bytes of the file, and one pass over them that turns each
+// number into a value. The yardstick of bench/run for msh_count.
 //
 //   g++ -O2 -std=c++20 floor.cpp -o floor;  ./floor FILE
 #include <chrono>

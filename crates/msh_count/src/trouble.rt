@@ -1,10 +1,10 @@
 //! Why nothing was counted.
 
 ghost use Rattle.std.specs.Prelude.{◌≡◌};
-ghost use Rattle.scan_count.specs.declared.trouble.Trouble.TheVariants.{Write, Memory};
-ghost use Rattle.scan_count.specs.Statuses.{status_of, trouble_of};
+ghost use Rattle.msh_count.specs.declared.trouble.Trouble.TheVariants.{Write, Memory};
+ghost use Rattle.msh_count.specs.Statuses.{status_of, trouble_of, mesh_trouble};
 
-use plex_base::NoMemory;
+use msh_reader::MshFault;
 use shelf_io::{Failed, ShelfFault};
 use std::alloc::{AllocError, AllocFailed};
 
@@ -13,8 +13,8 @@ use std::alloc::{AllocError, AllocFailed};
 pub enum Trouble {
     /// There is not exactly one word.
     Words,
-    /// A coordinate is no number, or out of range.
-    NoNumber,
+    /// The file is no right mesh file.
+    Mesh,
     /// The file could not be read, or has more bytes than the limit.
     Read,
     /// The output could not be written.
@@ -30,7 +30,7 @@ impl Trouble {
     {
         match self {
             Trouble::Words => 2,
-            Trouble::NoNumber => 4,
+            Trouble::Mesh => 4,
             Trouble::Read => 6,
             Trouble::Write => 7,
             Trouble::Memory => 8,
@@ -57,11 +57,14 @@ impl From<Failed> for Trouble {
     }
 }
 
-impl From<NoMemory> for Trouble {
-    ghost from_gives = { λ _ trouble. trouble ≡ Memory };
+impl From<MshFault> for Trouble {
+    ghost from_gives = { λ fault trouble. trouble ≡ mesh_trouble fault };
 
-    fn from(_: NoMemory) -> Trouble {
-        Trouble::Memory
+    fn from(fault: MshFault) -> Trouble {
+        match fault {
+            MshFault::NoMemory => Trouble::Memory,
+            _ => Trouble::Mesh,
+        }
     }
 }
 

@@ -1,21 +1,20 @@
-//! `scan_count FILE` prints how many tokens a mesh file of the working folder has between its header
-//! lines, and the sum of all coordinates of its nodes.
+//! `msh_count FILE` prints how many nodes, elements and physical names a mesh file of the working
+//! folder has, and how many rows each of its data sections has.
 //!
-//! It makes the speed of a scan visible: each token is found once, and each coordinate is read. Its
-//! exit status is that of [`Trouble`], or 0.
+//! It makes the speed of the reader visible: the whole file is read, and its first fault is found.
+//! Its exit status is that of [`Trouble`], or 0.
 #![tactic(auto)]
 
 ghost use Rattle.std.specs.Prelude.{◌≡◌, IfOk};
-ghost use Rattle.scan_count.specs.Statuses.{counts_text};
+ghost use Rattle.msh_count.specs.Statuses.{counts_text};
 
 mod counting;
 mod trouble;
 
-use counting::{Counts, count};
+use counting::lines;
+use msh_reader::{MshText, read_msh};
 use plex_base::MAX_FILE_BYTES;
-use scan::print_fixed;
 use shelf_io::{FolderShelf, OutSink, Shelf, Sink};
-use std::alloc::Global;
 use std::env;
 use std::io::{self, ErrorKind};
 use std::process::ExitCode;
@@ -40,28 +39,17 @@ fn file_name<R: Env + AllocGlobal>(rt: &R) -> Result<String, Trouble> {
     }
 }
 
-/// What is counted in the file of this name.
-fn count_file<R: Files + AllocGlobal>(rt: &R, name: &str) -> Result<Counts, Trouble> {
+/// What the file of this name says.
+fn read_file<R: Files + AllocGlobal>(rt: &R, name: &str) -> Result<MshText, Trouble> {
     let mut bytes = Vec::new(rt.alloc());
     FolderShelf::new(rt).take(name, MAX_FILE_BYTES, &mut bytes)?;
-    count(&bytes).map_err(|_| Trouble::NoNumber)
-}
-
-/// The lines `tokens N` and `sum S`.
-fn lines(alloc: Global, counts: &Counts) -> Result<Vec<u8>, Trouble>
-    ensures { IfOk result (λ lines. lines.items ≡ counts_text counts.now) }
-{
-    let tokens = counts.tokens;
-    let mut lines = format!(in alloc; "tokens {tokens}\nsum ")?.into_bytes();
-    print_fixed(counts.sum, &mut lines)?;
-    lines.push(b'\n')?;
-    Ok(lines)
+    Ok(read_msh(rt.alloc(), &bytes)?)
 }
 
 fn run<R: Env + Files + Print + AllocGlobal>(rt: &R) -> Result<(), Trouble> {
     let name = file_name(rt)?;
-    let counts = count_file(rt, name.as_str())?;
-    let lines = lines(rt.alloc(), &counts)?;
+    let text = read_file(rt, name.as_str())?;
+    let lines = lines(rt.alloc(), &text)?;
     let mut out = OutSink::new(rt);
     out.write(&lines)?;
     out.flush()?;
