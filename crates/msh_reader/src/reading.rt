@@ -142,7 +142,7 @@ fn take(
     }
 }
 
-/// Reads a mesh file of at most 268,435,456 bytes.
+/// Reads a mesh file. Condition: at most [`MAX_FILE_BYTES`].
 ///
 /// The bytes are a file in the MSH format 2.2 of the Gmsh manual, as text. An `Err` is its first
 /// fault, by the order of the bytes, or that memory ran out.
