@@ -1,9 +1,12 @@
 //! Tests of the crates on which the others stand: keys and dimensions, operations on words, the tables and orientations
-//! of polytopes, charts with cones, labels, and accepted meshes.
+//! of polytopes, charts with cones, labels, accepted and
+//! generated meshes.
 #![tactic(auto)]
 
 #[cfg(test)]
 mod chart;
+#[cfg(test)]
+mod generated;
 #[cfg(test)]
 mod keys;
 #[cfg(test)]

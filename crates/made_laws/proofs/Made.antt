@@ -22,7 +22,7 @@ use Rattle.made_laws.proofs.Used.{has_vertex, step-to, digits, used-tri, used-qu
 
 -- ---- its lists
 
-points-count : (kind : Kind) (n : ℕ) → length (made kind n).at ≡ layers kind (n + 1) * ((n + 1) * (n + 1))
+pub points-count : (kind : Kind) (n : ℕ) → length (made kind n).at ≡ layers kind (n + 1) * ((n + 1) * (n + 1))
 unfolding made grid_points
 points-count kind n = length-map (grid (n + 1) (n + 1) (layers kind (n + 1))) _ ∙ length-grid (n + 1) (n + 1) (layers kind (n + 1))
 
@@ -108,7 +108,7 @@ differ-made kind n some =
 
 -- ---- how many
 
-cells-count : (kind : Kind) (n : ℕ) → length (made kind n).cells ≡ layers kind n * (n * n) * length (cuts kind)
+pub cells-count : (kind : Kind) (n : ℕ) → length (made kind n).cells ≡ layers kind n * (n * n) * length (cuts kind)
 cells-count kind n =
     ap length (cells-listed kind n) ∙ length-each (cells_of kind n) (length (cuts kind)) (λ p. length-map (cuts kind) _) (grid n n (layers kind n))
     ∙ ap (λ k. k * length (cuts kind)) (length-grid n n (layers kind n))
@@ -119,7 +119,7 @@ some-cell Quad n some = let square : 1 * 1 ≤ n * n = mul-le-mul some some in o
 some-cell Tet n some = let cube : 1 * (1 * 1) ≤ n * (n * n) = mul-le-mul some (mul-le-mul some some) in omega arith
 some-cell Hex n some = let cube : 1 * (1 * 1) ≤ n * (n * n) = mul-le-mul some (mul-le-mul some some) in omega arith
 
-few-cells : (kind : Kind) (n : ℕ) → n ≤ most kind → layers kind n * (n * n) * length (cuts kind) ≤ 250000
+pub few-cells : (kind : Kind) (n : ℕ) → n ≤ most kind → layers kind n * (n * n) * length (cuts kind) ≤ 250000
 few-cells Tri n few = let square : n * n ≤ 353 * 353 = mul-le-mul few few in omega arith
 few-cells Quad n few = let square : n * n ≤ 500 * 500 = mul-le-mul few few in omega arith
 few-cells Tet n few = let cube : n * (n * n) ≤ 34 * (34 * 34) = mul-le-mul few (mul-le-mul few few) in omega arith

@@ -18,7 +18,8 @@ use Rattle.plex_base.specs.DataFields.{FieldRows, section_on}
 
 -- ---- lists of sets
 
-same_set-turn : (xs ys : List ℕ) → same_set xs ys ≡ same_set ys xs
+-- equal sets are equal the other way round
+pub same_set-turn : (xs ys : List ℕ) → same_set xs ys ≡ same_set ys xs
 same_set-turn xs ys = same_tests (same_set xs ys) (same_set ys xs) (same_list-turn (sorted xs) (sorted ys)) (same_list-turn (sorted ys) (sorted xs))
 
 -- sets that differ, and one more that is none of them
