@@ -28,7 +28,7 @@ pub fn most(kind: Kind) -> u32
 pub fn make(alloc: Global, kind: Kind, n: u32) -> Result<Mesh, NoMemory>
     requires some { 1 ≤ n }
     requires few { n ≤ greatest kind }
-    ensures made { IfOk result (λ mesh. mesh ≡ made kind n) }
+    ensures { IfOk result (λ mesh. mesh ≡ made kind n) }
 {
     let mut builder = MeshBuilder::new(alloc, dim_of_kind(kind));
     add_points(&mut builder, kind, n)?;
