@@ -1,0 +1,15 @@
+//! Rounds of atomic steps on shared words, and what runs them.
+//!
+//! A [`Fabric`] takes the words of a round and what each rank asks of them, and answers a [`Round`]:
+//! what each ask fetched, the words afterwards, and an order of the asks on each word that explains
+//! both. After `PetscSFFetchAndOpBegin` of PETSc.
+#![tactic(auto)]
+
+mod fabric;
+mod lists;
+mod round;
+
+pub use fabric::Fabric;
+pub use lists::Lists;
+pub use round::Round;
+pub use sf_defs::{Ask, Op, Tag, Turn};
