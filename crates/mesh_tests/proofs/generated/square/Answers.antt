@@ -1,7 +1,7 @@
 use Rattle.std.proofs.Common.{ap, length}
 use Rattle.mesh_defs.specs.Mesh.{Mesh}
 use Rattle.input_defs.specs.Generated.{grid_points, grid_cells, cells_at, made}
-use Rattle.base_tests.proofs.generated.square.Goals as goal
+use Rattle.mesh_tests.proofs.generated.square.Goals as goal
 
 pub returns-clause-at : goal.returns-clause-at
 unfolding made grid_points

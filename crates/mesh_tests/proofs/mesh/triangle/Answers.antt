@@ -6,7 +6,7 @@ use Rattle.mesh_defs.specs.declared.Poly.TheVariants.{Triangle}
 use Rattle.mesh_defs.specs.Mesh.{Mesh, Mark}
 use Rattle.mesh_defs.specs.Points.{sights_of, contains}
 use Rattle.mesh_defs.specs.RightMesh.{IsOnPoint}
-use Rattle.base_tests.proofs.mesh.triangle.Goals as goal
+use Rattle.mesh_tests.proofs.mesh.triangle.Goals as goal
 
 abbrev one_cell : Mesh
 one_cell = record {

@@ -1,7 +1,7 @@
 use Rattle.std.proofs.Common.{ap, ap₂, ◌∙◌}
 use Rattle.plex_base.specs.DataFields.{FieldRows, rows_of_values}
 use Rattle.plex_base.specs.FlatRows.{with_rows}
-use Rattle.base_tests.proofs.mesh.one_value.Goals as goal
+use Rattle.mesh_tests.proofs.mesh.one_value.Goals as goal
 
 pub returns-clause-rows : goal.returns-clause-rows
 unfolding with_rows
