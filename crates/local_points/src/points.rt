@@ -1,0 +1,123 @@
+ghost use Rattle.std.specs.Prelude.{◌≡◌, ◌<◌, ◌≤◌, [], ◌∷◌, length, slice_index, position, IfOk, Some};
+ghost use Rattle.std.specs.List.{slice_get};
+ghost use Rattle.plain_lists.specs.Lists.{sorted};
+ghost use Rattle.mesh_defs.specs.declared.Poly.TheVariants.{Segment};
+ghost use Rattle.mesh_defs.specs.Points.{shows, point_on};
+ghost use Rattle.mesh_defs.specs.Sights.{edge_sight};
+ghost use Rattle.local_points.specs.Cells.{AreFit};
+ghost use Rattle.local_points.specs.Points.{local_points, row_at};
+
+use crate::cell_list::CellList;
+use crate::edges::{EdgeTable, join_edges};
+use crate::entries::Entries;
+use crate::faces::{FaceTable, join_faces};
+use mesh_defs::Poly;
+use plex_base::{NoMemory, PointKey};
+use std::alloc::Global;
+use std::marker::Model;
+
+/// The faces and edges of a list of cells, each once, as these cells alone see them.
+///
+/// Faces and edges are named by their places from 0 in the order of first sight: cell by cell in
+/// the order of the list, and within a cell in the order of its table. That is the order of their
+/// keys where the numbers of the cells rise. Only solids have faces here; a polygon is a cell.
+#[derive(Drop)]
+pub struct LocalPoints {
+    faces: FaceTable,
+    edges: EdgeTable,
+    face_places: Entries,
+    edge_places: Entries,
+}
+
+impl Model for LocalPoints {
+    ghost use Rattle.std.specs.Prelude.{◌≤◌, length};
+    ghost use Rattle.local_points.specs.Points.{Local};
+
+    ghost Value = { Local };
+
+    ghost view = { λ p. record { faces = p.faces; edges = p.edges; face_places = p.face_places; edge_places = p.edge_places } };
+
+    ghost invariant = { λ p. (length p.faces ≤ 1500000) × (length p.edges ≤ 3000000) };
+}
+
+impl LocalPoints {
+    /// Finds the faces and edges of these cells: at most 250,000 polygons and solids with numbers
+    /// below 250,000, as many vertices as corners, each below 2^32 - 1.
+    pub fn of<C: CellList>(alloc: Global, cells: &C) -> Result<LocalPoints, NoMemory>
+        requires { AreFit (C.cells cells.now) }
+        ensures { IfOk result (λ p. p ≡ local_points (C.cells cells.now)) }
+    {
+        let (faces, face_places) = join_faces(alloc, cells)?;
+        let (edges, edge_places) = join_edges(alloc, cells)?;
+        Ok(LocalPoints {
+            faces,
+            edges,
+            face_places,
+            edge_places,
+        })
+    }
+
+    /// How many faces there are.
+    pub fn faces(&self) -> u32
+        ensures count { result ≡ length self.now.faces }
+        ensures few { result ≤ 1500000 }
+    {
+        self.faces.len() as u32
+    }
+
+    /// How many edges there are.
+    pub fn edges(&self) -> u32
+        ensures count { result ≡ length self.now.edges }
+        ensures few { result ≤ 3000000 }
+    {
+        self.edges.len() as u32
+    }
+
+    /// Face `k`: its key, its polytope, and its vertices in the order of the cell that saw it first.
+    pub fn face(&self, k: u32) -> (PointKey, Poly, &[u32])
+        requires { k < length self.now.faces }
+        ensures { slice_get self.now.faces k ≡ Some (record { key = result.0.0; poly = result.1; arrangement = result.2.now }) }
+    {
+        self.faces.get(k as usize)
+    }
+
+    /// Edge `k`: its key, and its ends in the order of the cell that saw it first.
+    pub fn edge(&self, k: u32) -> (PointKey, [u32; 2])
+        requires { k < length self.now.edges }
+        ensures { slice_get self.now.edges k ≡ Some (record { key = result.0.0; poly = Segment; arrangement = result.1 }) }
+    {
+        self.edges.get(k as usize)
+    }
+
+    /// The place among the faces of face `f` of cell `i`.
+    pub fn face_of(&self, i: usize, f: usize) -> u32
+        requires cell { i < length self.now.face_places }
+        requires face { f < length (row_at self.now.face_places i) }
+        ensures { result ≡ slice_index (row_at self.now.face_places i) f }
+    {
+        self.face_places.get(i, f)
+    }
+
+    /// The place among the edges of edge `e` of cell `i`.
+    pub fn edge_of(&self, i: usize, e: usize) -> u32
+        requires cell { i < length self.now.edge_places }
+        requires edge { e < length (row_at self.now.edge_places i) }
+        ensures { result ≡ slice_index (row_at self.now.edge_places i) e }
+    {
+        self.edge_places.get(i, e)
+    }
+
+    /// The place of the face on these vertices, in any order; none where no cell has it.
+    pub fn find_face(&self, vertices: &[u32]) -> Option<u32>
+        ensures { result ≡ position (shows (record { dim = 2; vertices = sorted vertices.now })) self.now.faces }
+    {
+        self.faces.find(vertices)
+    }
+
+    /// The place of the edge between two vertices, in any order; none where no cell has it.
+    pub fn find_edge(&self, a: u32, b: u32) -> Option<u32>
+        ensures { result ≡ position (shows (point_on Segment (a ∷ b ∷ []))) self.now.edges }
+    {
+        self.edges.find(a, b)
+    }
+}
