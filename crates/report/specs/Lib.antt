@@ -1,0 +1,4 @@
+pub mod Delivery
+pub mod Heads
+pub mod Points
+pub mod Refusals

@@ -1,0 +1,36 @@
+//! Lines that are written.
+
+ghost use Rattle.std.specs.Prelude.{◌≡◌};
+ghost use Rattle.cause_defs.specs.Reports.{Reports};
+ghost use Rattle.text_defs.specs.Text.{end_line};
+ghost use Rattle.report.specs.Delivery.{Delivers};
+
+use cause_defs::ReportFault;
+use shelf_io::Sink;
+
+/// Writes a line that another one follows.
+pub(crate) fn write_line<W: Sink>(out: &mut W, line: &[u8]) -> Result<(), ReportFault>
+    ensures { Reports W.written W.flushed W.faults W.counts_failures_alone result out.old out.new line.now }
+{
+    out.write(line)?;
+    Ok(())
+}
+
+/// Writes the last line of a text, and flushes.
+pub(crate) fn write_last<W: Sink>(out: &mut W, line: &[u8]) -> Result<(), ReportFault>
+    ensures { Delivers W.written W.flushed W.faults W.counts_failures_alone result out.old out.new line.now }
+{
+    out.write(line)?;
+    out.flush()?;
+    Ok(())
+}
+
+/// Writes the line `end`, after which nothing stands in the text of a run, and flushes.
+///
+/// Fails where the sink does. Then the line, or a part of it from its beginning, is added, and nothing is flushed.
+#[tactic(auto, unfolding(text_defs::specs::Text::end_line))]
+pub fn write_end<W: Sink>(out: &mut W) -> Result<(), ReportFault>
+    ensures { Delivers W.written W.flushed W.faults W.counts_failures_alone result out.old out.new end_line }
+{
+    write_last(out, b"end\n")
+}
