@@ -1,6 +1,7 @@
 //! One round.
-ghost use Rattle.std.specs.Prelude.{◌≡◌, ◌<◌, [], length, get_or};
+ghost use Rattle.std.specs.Prelude.{◌≡◌, ◌<◌, ◌↔◌, [], length, get_or, IsTrue};
 ghost use Rattle.plain_lists.specs.Vectors.{lists_of};
+ghost use Rattle.sf_fabric.specs.Complete.{IsComplete};
 
 use crate::lists::Lists;
 use sf_defs::{Ask, Tag, Turn};
@@ -74,6 +75,16 @@ impl Round {
             after,
             order,
         }
+    }
+
+    /// Whether there is a list of fetched values for each rank, and a last value and an order for
+    /// each word. A round of `Fabric::run` has them all.
+    pub fn is_complete(&self) -> bool
+        ensures { IsTrue result ↔ IsComplete self.now }
+    {
+        self.got.len() == self.asks.len()
+            && self.after.len() == self.before.len()
+            && self.order.len() == self.before.len()
     }
 
     /// What the round is for.

@@ -1,0 +1,13 @@
+use Rattle.std.proofs.Common.{◌≡◌, ℕ, length, get_or, drop}
+use Rattle.plain_lists.specs.Vectors.{lists_of}
+use Rattle.sf_defs.specs.declared.Op.TheVariants.{Load}
+use Rattle.sf_defs.specs.PrintedOrder.{kind_of}
+use Rattle.sf_defs.specs.Rounds.{asks_on}
+use Rattle.sf_orders.specs.Places.{then_kind}
+use Rattle.sf_orders.proofs.kinds.kinds_of.Given as goal
+
+abbrev pub invariant-loop-own : goal.invariant-loop-own
+invariant-loop-own l = record {
+  count : length l.kinds.items ≡ l.words;
+  rest : (w : ℕ) → then_kind (get_or l.kinds.items w Load) (asks_on w (drop l.own-index (lists_of l.asks))) ≡ kind_of (asks_on w (lists_of l.asks));
+}

@@ -1,0 +1,9 @@
+pub mod Totals
+pub mod Places
+pub mod OwnTurns
+pub mod WalkFacts
+pub mod NamedTurns
+pub mod Counting
+pub mod Orders
+pub mod Steps
+pub mod Legal
