@@ -1,0 +1,5 @@
+pub mod Lines
+pub mod FormLemmas
+pub mod FitLemmas
+pub mod Takes
+pub mod Loop

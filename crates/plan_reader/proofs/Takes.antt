@@ -1,0 +1,72 @@
+-- What a line makes of what was read before.
+use Rattle.std.proofs.Common.{◌≡◌, ◌≢◌, get_or, ℕ, ◌≤◌, Bool, true, false, not, ◌||◌, List, [], ◌∷◌, ◌++◌, length, Option, Some, None, Ok, Err, refl, sym, ◌∙◌, arith}
+use Rattle.std.specs.Prelude.{Result, MatchResult, IsErrAnd, nat_le, nat_lt, ◌==◌}
+use Rattle.std.specs.List.{list_all, list_any}
+use Rattle.std.proofs.lemmas.Bool.{le-leb, lt-ltb, ne_eqb}
+use Rattle.std.proofs.lemmas.List.{length-map}
+use Rattle.plain_lists.specs.Lists.{same_list}
+use Rattle.plain_lists.proofs.Finding.{any_map}
+use Rattle.input_defs.specs.declared.PlanFault.TheVariants.{Dofs, Word}
+use Rattle.input_defs.specs.Plans as plans
+use Rattle.input_defs.specs.Plans.{Before, IsDofs, Move, is_part, form_of, with_form, with_line, plan_with, is_field_name, is_letter}
+use Rattle.input_defs.specs.declared.Show.{Show}
+use Rattle.plan_reader.specs.declared.moves.MoveLine.{MoveLine}
+use Rattle.plan_reader.specs.Drafts.{Drafted, drafted}
+use Rattle.plan_reader.specs.declared.moves.DofsLine.{DofsLine}
+use Rattle.plan_reader.specs.Reading.{dofs_view, dofs_views, move_views}
+
+-- the bytes of a name whose length is right
+pub field_name-is : (name : List ℕ) → 1 ≤ length name → length name ≤ 32 → list_all is_letter name ≡ is_field_name name
+field_name-is name some few = rw (le-leb _ _ some, le-leb _ _ few) refl
+
+-- whether a section can't be added to these
+abbrev pub is_wrong : List DofsLine → List ℕ → List ℕ → Bool
+is_wrong sections name dofs = not (is_field_name name) || list_any (λ (d : DofsLine). same_list d.name.items name) sections
+    || list_any (λ n. nat_lt 16 n) dofs || nat_le 8 (length sections)
+
+abbrev is_wrong_beside : List plans.DofsLine → List ℕ → List ℕ → Bool
+is_wrong_beside sections name dofs = not (is_field_name name) || list_any (λ (d : plans.DofsLine). same_list d.name name) sections
+    || list_any (λ n. nat_lt 16 n) dofs || nat_le 8 (length sections)
+
+wrong_view : (sections : List DofsLine) (name dofs : List ℕ) → is_wrong_beside (dofs_views sections) name dofs ≡ is_wrong sections name dofs
+wrong_view sections name dofs = rw (any_map (λ (d : plans.DofsLine). same_list d.name name) dofs_view sections, length-map sections dofs_view) refl
+
+pub dofs-wrong : (b : Before) (line : ℕ) (name dofs : List ℕ) (sections : List DofsLine) → b.dofs ≡ dofs_views sections → is_wrong sections name dofs ≡ true
+    → with_form b line (Some (IsDofs (record { name = name; dofs = dofs }))) ≡ Err (Dofs line)
+unfolding with_form
+dofs-wrong b line name dofs sections e wrong =
+    let test : is_wrong_beside b.dofs name dofs ≡ true = rw e (wrong_view sections name dofs ∙ wrong) in
+    rw test refl
+
+pub dofs-right : (b : Before) (line : ℕ) (name dofs : List ℕ) (sections : List DofsLine) → b.dofs ≡ dofs_views sections → is_wrong sections name dofs ≡ false
+    → with_form b line (Some (IsDofs (record { name = name; dofs = dofs }))) ≡ Ok (record b { dofs = b.dofs ++ record { name = name; dofs = dofs } ∷ [] })
+unfolding with_form
+dofs-right b line name dofs sections e right =
+    let test : is_wrong_beside b.dofs name dofs ≡ false = rw e (wrong_view sections name dofs ∙ right) in
+    rw test refl
+
+-- where there are moves, one of them is a part
+pub part_there : (moves : List (ℕ × Move)) (n : ℕ) → list_any (λ (m : ℕ × Move). is_part m.1) moves ≡ nat_lt 0 (length moves) → n ≡ length moves → (n == 0) ≡ false → list_any (λ (m : ℕ × Move). is_part m.1) moves ≡ true
+part_there [] n parts e some = absurd (grind arith)
+part_there (m ∷ moves) n parts e some = parts ∙ lt-ltb 0 (length (m ∷ moves)) (omega arith)
+
+-- at the end, with ranks and a part
+pub plan_with-is : (d : Drafted) (ranks : Option ℕ) (moves : List MoveLine) (dofs : List DofsLine) (shows : Show) (ahead : Option ℕ) (line n : ℕ) → drafted ranks moves dofs shows ahead ≡ d → ranks ≡ Some n
+    → list_any (λ (m : ℕ × Move). is_part m.1) (move_views moves) ≡ true
+    → Ok (record { ranks = n; moves = move_views moves; dofs = dofs_views dofs; shows = shows }) ≡ plan_with d.before line d.before.ranks
+plan_with-is d ranks moves dofs shows ahead line n e some part = rw (← e, some, part) refl
+
+-- ---- one line
+
+not_ok : {T D : Type 0} (x : T) (P : D → Type 0) → IsErrAnd (Ok x) P → ⊥
+not_ok x P h = h
+
+-- what `map_err` handed on
+pub mapped : {T E D : Type 0} (r : Result T E) (s : Result T D) (P : E → D → Type 0) (x : T) → MatchResult r (λ y. s ≡ Ok y) (λ e. IsErrAnd s (P e)) → s ≡ Ok x → r ≡ Ok x
+mapped {T = T} {D = D} (Ok y) s P x m e = let same : ◌≡◌ {A = Result T D} (Ok y) (Ok x) = sym m ∙ e in cc
+mapped (Err d) s P x m e = absurd (not_ok x (P d) (rw e at m))
+
+-- a line that begins with no `#` and has none of the forms
+pub no_form : (b : Before) (line : ℕ) (text : List (List ℕ)) (word : List ℕ) (tokens : List (List ℕ)) → text ≡ word ∷ tokens → get_or word 0 0 ≢ 35 → form_of word tokens ≡ None → with_line b line text ≡ Err (Word line)
+unfolding with_form
+no_form b line text word tokens e said none = rw (e, ne_eqb (get_or word 0 0) 35 said, none) refl

@@ -1,0 +1,57 @@
+-- What was read of a plan up to a line, and a plan, as they are kept.
+use Rattle.std.specs.Prelude.{◌≡◌, ℕ, ◌^◌, ◌<◌, ◌≤◌, Bool, if◌then◌else◌, List, Option, Some, None, option_and_then, slice_get, nat_lt, length}
+use Rattle.std.specs.List.{list_any}
+use Rattle.std.specs.Option.{ForSome}
+use Rattle.input_defs.specs.declared.Show.{Show}
+use Rattle.input_defs.specs.Plans.{Before, Form, IsMove, Layers, Move, Part, Plan, Spread, layers_of, is_part}
+use Rattle.plan_reader.specs.declared.moves.MoveLine.{MoveLine}
+use Rattle.plan_reader.specs.declared.moves.DofsLine.{DofsLine}
+use Rattle.plan_reader.specs.Reading.{move_views, dofs_views}
+
+-- what was read, and the first line that is not built yet
+pub record Drafted : Type 0 where
+  pub before : Before
+  pub ahead : Option ℕ
+
+abbrev pub drafted : Option ℕ → List MoveLine → List DofsLine → Show → Option ℕ → Drafted
+drafted ranks moves dofs shows ahead = record { before = record { ranks = ranks; moves = move_views moves; dofs = dofs_views dofs; shows = shows }; ahead = ahead }
+
+-- the layers are counted, a part stands before them, and the ranks are in range
+pub record IsDraft (ranks : Option ℕ) (layers : ℕ) (moves : List (ℕ × Move)) : Type 0 where
+  pub layers_is : layers ≡ layers_of moves
+  pub few : layers ≤ 4
+  pub parts : list_any (λ (m : ℕ × Move). is_part m.1) moves ≡ nat_lt 0 (length moves)
+  pub some_ranks : ForSome ranks (λ n. 1 ≤ n)
+  pub few_ranks : ForSome ranks (λ n. n ≤ 64)
+
+-- a number of layers as a line can tell it
+abbrev pub HasFewLayers : Form → Type 0
+HasFewLayers (IsMove (Layers k)) = k < 10 ^ 9
+HasFewLayers _ = Unit {0}
+
+-- the first of two, where there is one
+abbrev pub first_some : Option ℕ → Option ℕ → Option ℕ
+first_some (Some n) other = Some n
+first_some None other = other
+
+-- the first line that is not built yet, where this line is looked at after others
+abbrev pub ahead_with : Option ℕ → ℕ → Bool → Option ℕ
+ahead_with ahead line is_ahead = first_some ahead (if is_ahead then Some line else None)
+
+-- ---- a plan
+
+-- what a plan file says, and its first line that is not built yet
+pub record PlanText : Type 0 where
+  pub plan : Plan
+  pub ahead : Option ℕ
+
+abbrev pub plan_text : ℕ → List MoveLine → List DofsLine → Show → Option ℕ → PlanText
+plan_text ranks moves dofs shows ahead = record { plan = record { ranks = ranks; moves = move_views moves; dofs = dofs_views dofs; shows = shows }; ahead = ahead }
+
+abbrev pub spread_of : ℕ × Move → Option Spread
+spread_of (line, Part spread) = Some spread
+spread_of (line, Layers k) = None
+
+-- how the part at this place spreads the cells, if it is one
+abbrev pub spread_at : List (ℕ × Move) → ℕ → Option Spread
+spread_at moves i = option_and_then spread_of (slice_get moves i)
