@@ -15,7 +15,7 @@ use Rattle.triangle_defs.specs.Triangles.{triangle_mesh}
 use Rattle.text_defs.specs.Text.{alone, number_of, mesh_line, ranks_line, step_line, rank_line, total_line, point_line, head_text, rank_text, total_text, point_text, points_text, plain_step_text, end_line, plain_text}
 use Rattle.plex_base.specs.declared.key.PointKey.{PointKey}
 use Rattle.plex_chart.specs.Chart.{point_at, no_point}
-use Rattle.plex_serial.specs.Keys.{key_at, Draws}
+use Rattle.triangle_serial.specs.Keys.{key_at, Draws}
 use Rattle.triangle_laws.specs.TriangleMesh.{IsTriangleMesh, IsTriangleContent, triangle_diagram}
 use Rattle.triangle_laws.proofs.TriangleDiagram.{chart-triangles, cones-alone, count-cells, count-vertices, count-edges, diagram-triangles}
 use Rattle.triangle_laws.proofs.TriangleContent.{triangle_mesh-is}

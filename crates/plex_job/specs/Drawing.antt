@@ -5,7 +5,7 @@ use Rattle.mesh_defs.specs.Diagram.{Diagram}
 use Rattle.text_defs.specs.Text.{mesh_line, ranks_line, step_line, rank_line, total_line, point_line, end_line}
 use Rattle.plex_base.specs.declared.key.PointKey.{PointKey}
 use Rattle.plex_chart.specs.Chart.{point_at}
-use Rattle.plex_serial.specs.Keys.{key_at}
+use Rattle.triangle_serial.specs.Keys.{key_at}
 
 -- the line of point p
 unfoldable pub drawn_point : Diagram → List PointKey → List (List ℤ) → ℕ → List ℕ

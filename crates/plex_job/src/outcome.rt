@@ -8,7 +8,7 @@ use crate::refusal::{Refusal, write_refusal};
 use crate::report::write_mesh;
 use cause_defs::ReportFault;
 use input_defs::Status;
-use plex_serial::SerialMesh;
+use triangle_serial::SerialMesh;
 use shelf_io::Sink;
 use std::alloc::Global;
 

@@ -10,7 +10,7 @@ use crate::line::append_field;
 use crate::point::append_point;
 use cause_defs::ReportFault;
 use plex_base::NoMemory;
-use plex_serial::SerialMesh;
+use triangle_serial::SerialMesh;
 use shelf_io::Sink;
 use std::alloc::Global;
 

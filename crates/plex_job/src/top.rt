@@ -16,7 +16,7 @@ use crate::refusal::Refusal;
 use cause_defs::ReportFault;
 use input_defs::Status;
 use plex_base::{MAX_FILE_BYTES, NoMemory};
-use plex_serial::interpolate;
+use triangle_serial::interpolate;
 use shelf_io::{Failed, Shelf, ShelfFault, Sink};
 use std::alloc::Global;
 use triangle_reader::{MshFault, read_msh};
