@@ -1,0 +1,18 @@
+-- Marks on points that are numbered by their places.
+use Rattle.std.specs.Prelude.{◌≡◌, ℕ, true, ◌==◌, List, map, filter, ℤ}
+use Rattle.std.specs.List.{list_any}
+use Rattle.mesh_defs.specs.Mesh.{Mark}
+use Rattle.mesh_defs.specs.Points.{Sight, shows, marked_point}
+use Rattle.mesh_defs.specs.Diagram.{place_in}
+
+-- the mark is on one of these points
+abbrev pub IsAmong : List Sight → Mark → Type 0
+IsAmong points k = list_any (shows (marked_point k)) points ≡ true
+
+-- the place of a mark's point, and its value
+abbrev pub marked_pair : List Sight → Mark → ℕ × ℤ
+marked_pair points k = (place_in points (marked_point k), k.value)
+
+-- those of the marks of one dimension
+abbrev pub marked_pairs : List Sight → ℕ → List Mark → List (ℕ × ℤ)
+marked_pairs points dim marks = map (marked_pair points) (filter (λ (k : Mark). k.dim == dim) marks)
