@@ -26,7 +26,8 @@ use Rattle.text_defs.specs.Text.{alone, number_of, tag, tail_text, line, step_li
 use Rattle.input_defs.specs.Further.{labels_text, values_text, data_at, data_text, full_point, full_head, full_text}
 use Rattle.plex_base.specs.declared.key.PointKey.{PointKey}
 use Rattle.plex_chart.specs.Chart.{point_at, no_point}
-use Rattle.report.specs.Points.{IsDrawn, IsPlaced, key_at, section_text, sections_text, label_values, drawn_tail, drawn_point, part_lines, full_points}
+use Rattle.report.specs.Drawn.{IsDrawn}
+use Rattle.report.specs.Points.{IsPlaced, key_at, section_text, sections_text, label_values, drawn_tail, drawn_point, part_lines, full_points}
 use Rattle.report.proofs.Labels.{label-marks}
 use Rattle.report.proofs.Placed.{chart-placed}
 

@@ -1,34 +1,20 @@
 -- The lines of points as they are drawn from a diagram, keys, labels and tables of rows.
-use Rattle.std.specs.Prelude.{◌≡◌, ℕ, zero, suc, ◌<◌, ◌≤◌, ◌/◌, ℤ, List, [], ◌∷◌, ◌++◌, map, length, get_or, slice_index, flat_map, decimal, codes, Option, Some, None}
+use Rattle.std.specs.Prelude.{◌≡◌, ℕ, zero, suc, ◌<◌, ◌≤◌, ◌/◌, ℤ, List, [], ◌∷◌, ◌++◌, length, get_or, slice_index, flat_map, decimal, codes, Option, Some, None}
 use Rattle.std.specs.Fmt.{signed_decimal}
 use Rattle.std.specs.List.{enumerate_from}
-use Rattle.plain_lists.specs.Lists.{below}
 use Rattle.mesh_defs.specs.declared.Poly.{Poly}
 use Rattle.mesh_defs.specs.declared.ConeEntry.{ConeEntry}
 use Rattle.mesh_defs.specs.Tables.{dim_of}
 use Rattle.mesh_defs.specs.Mesh.{Mesh, Row, Section, placed_cells}
-use Rattle.mesh_defs.specs.Points.{Sight}
-use Rattle.mesh_defs.specs.Diagram.{Diagram, chart, diagram}
+use Rattle.mesh_defs.specs.Diagram.{Diagram, chart}
 use Rattle.mesh_defs.specs.RightMesh.{count_on}
 use Rattle.plex_defs.specs.Fields.{row_values}
-use Rattle.plex_defs.specs.Labels.{values_at, mesh_label}
+use Rattle.plex_defs.specs.Labels.{values_at}
 use Rattle.text_defs.specs.Text.{alone, number_of, tag, tail_text, line, step_line, rank_line, total_line}
 use Rattle.input_defs.specs.Further.{label_text, values_text, data_at, full_point}
 use Rattle.plex_base.specs.declared.key.PointKey.{PointKey}
 use Rattle.plex_chart.specs.Chart.{point_at}
 use Rattle.report.specs.Heads.{field_at}
-
--- ---- what is drawn
-
--- the labels of points of dimension 0 to 3
-abbrev pub mesh_labels : Mesh → List (List (ℕ × ℤ))
-mesh_labels m = map (λ dim. mesh_label m dim (chart m (placed_cells m))) (below 4)
-
--- these are the diagram of the mesh, the keys of its points by their numbers, and its labels by dimension
-pub record IsDrawn (m : Mesh) (g : Diagram) (keys : List PointKey) (labels : List (List (ℕ × ℤ))) : Type 0 where
-  pub same_diagram : g ≡ diagram m (placed_cells m)
-  pub same_keys : map (λ (k : PointKey). k.0) keys ≡ map (λ (s : Sight). s.key) (chart m (placed_cells m))
-  pub same_labels : labels ≡ mesh_labels m
 
 -- a key that is the position of a vertex, or that of a cell, where the point is one
 pub record IsPlaced (m : Mesh) (poly : Poly) (key : ℕ) : Type 0 where

@@ -6,6 +6,7 @@
 mod counts;
 mod data;
 mod head;
+mod laws;
 mod line;
 mod mesh_faults;
 mod mesh_text;
@@ -17,6 +18,7 @@ mod rows;
 mod writing;
 
 pub use cause_defs::ReportFault;
+pub use laws::{labels_have_the_values_of_marks, numbers_on_one_rank_are_places};
 pub use mesh_text::write_mesh_text;
 pub use refusal::{Refusal, write_refusal};
 pub use writing::write_end;

@@ -3,7 +3,7 @@
 ghost use Rattle.std.specs.Prelude.{◌≡◌, []};
 ghost use Rattle.input_defs.specs.Further.{full_text};
 ghost use Rattle.report.specs.Delivery.{Delivers};
-ghost use Rattle.report.specs.Points.{IsDrawn};
+ghost use Rattle.report.specs.Drawn.{IsDrawn};
 
 use crate::head::write_mesh_head;
 use crate::part::write_part_head;

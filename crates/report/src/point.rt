@@ -6,7 +6,8 @@ ghost use Rattle.text_defs.specs.Text.{tag, entry_text, at_text, tail_text};
 ghost use Rattle.plain_lists.specs.Vectors.{lists_of};
 ghost use Rattle.cause_defs.specs.Reports.{Reports};
 ghost use Rattle.mesh_defs.specs.RightMesh.{IsRightMesh};
-ghost use Rattle.report.specs.Points.{IsDrawn, IsPlaced, HaveLastRows, drawn_tail, drawn_point, full_points};
+ghost use Rattle.report.specs.Drawn.{IsDrawn};
+ghost use Rattle.report.specs.Points.{IsPlaced, HaveLastRows, drawn_tail, drawn_point, full_points};
 
 use crate::data::{append_label, append_sections};
 use crate::line::{append_field, append_fixed, append_number};
