@@ -1,0 +1,12 @@
+//! What the words of a call ask for: a plan file, a mesh file or a generated mesh, and a summary.
+//!
+//! The definition `request` of `input_defs` says which words are accepted, and what they ask for.
+//! [`read_words`] gives exactly that.
+#![tactic(auto)]
+
+mod asked;
+mod made;
+mod reading;
+
+pub use asked::{Request, Source};
+pub use reading::read_words;

@@ -1,0 +1,5 @@
+//! Tests of the words of a call: lists that are accepted, and lists that are refused.
+#![tactic(auto)]
+
+#[cfg(test)]
+mod words;
