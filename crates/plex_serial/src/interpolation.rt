@@ -1,0 +1,24 @@
+ghost use Rattle.std.specs.Prelude.{MatchResult};
+ghost use Rattle.plex_serial.specs.Keys.{Draws, IsFault};
+
+use crate::assembly::assemble;
+use crate::cells::AllCells;
+use crate::fault::SerialFault;
+use crate::keys::keys_of;
+use crate::serial_mesh::SerialMesh;
+use local_points::LocalPoints;
+use plex_mesh::Mesh;
+use std::alloc::Global;
+
+/// The diagram of a mesh, with faces and edges between its cells and vertices, and the orientations
+/// under which cells see what they share: `DMPlexInterpolate`.
+///
+/// A mesh with a twisted face is refused, with the least key of such a face.
+pub fn interpolate(alloc: Global, mesh: &Mesh) -> Result<SerialMesh, SerialFault>
+    ensures { MatchResult result (λ s. Draws mesh.now s.plex s.keys.items) (λ fault. IsFault mesh.now fault) }
+{
+    let points = LocalPoints::of(alloc, &AllCells::new(mesh))?;
+    let plex = assemble(alloc, mesh, &points)?;
+    let keys = keys_of(alloc, mesh, &points)?;
+    Ok(SerialMesh { plex, keys })
+}
