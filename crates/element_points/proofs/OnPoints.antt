@@ -45,7 +45,7 @@ sound-cells c right =
     (all_both (IsIn c.elements) (IsRightElement (node_numbers c)) (λ e. is_top c e ≡ true → IsSound c e) (λ e among r top. record { vertices = top-corners c e among r.nodes_known top; corners = r.corners ∙ type-corners e.kind r.kind }) c.elements (all-in c.elements) right.elements)))
 
 -- an element is on a point just where some part of a cell has its dimension and its nodes
-on-points : (c : Content) → IsRight c → (e : Element) → is_point_of (cells_of c) (point_of_element (vertex_nodes c) e) ≡ list_any (λ (own : Element). list_any (is_on (dim e) e.nodes) (parts_of (poly own) own.nodes)) (cell_elements c)
+pub on-points : (c : Content) → IsRight c → (e : Element) → is_point_of (cells_of c) (point_of_element (vertex_nodes c) e) ≡ list_any (λ (own : Element). list_any (is_on (dim e) e.nodes) (parts_of (poly own) own.nodes)) (cell_elements c)
 unfolding cells_of
 on-points c right e =
     any_map (λ cell. contains cell (point_of_element (vertex_nodes c) e)) (cell_of (vertex_nodes c)) (cell_elements c)
