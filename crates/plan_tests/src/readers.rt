@@ -118,3 +118,13 @@ fn plans_and_meshes(rt: HostRuntime) -> Result<(), Fail> {
     }
     Ok(())
 }
+
+#[test]
+#[tactic(auto, unfolding(input_defs::specs::Plans::misfit, input_defs::specs::Plans::misfits))]
+fn ranks_of_cells(rt: HostRuntime) -> Result<(), Fail> {
+    let plan = Plan::plain(rt.alloc())?;
+    for cell in 0..3 {
+        assert_eq!(rt; plan.rank_of(0, cell, 3), 0);
+    }
+    Ok(())
+}
