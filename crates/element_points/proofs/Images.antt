@@ -47,7 +47,7 @@ all_taken_out P x (y ∷ ys) h = go (nat_le x y) (all_taken_out P x ys) h
     go false r h = let rest = r h.1 in (rest.0, (h.0, rest.1))
 
 -- what all numbers have in order, they have
-all_unsorted : (P : ℕ → Type 0) (xs : List ℕ) → AllByRecursion P (sorted xs) → AllByRecursion P xs
+pub all_unsorted : (P : ℕ → Type 0) (xs : List ℕ) → AllByRecursion P (sorted xs) → AllByRecursion P xs
 unfolding sorted
 all_unsorted P [] h = tt
 all_unsorted P (x ∷ xs) h = let both = all_taken_out P x (sorted xs) h in (both.0, all_unsorted P xs both.1)

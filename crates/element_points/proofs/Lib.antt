@@ -5,3 +5,4 @@ pub mod Setting
 pub mod Reading
 pub mod Cells
 pub mod Answering
+pub mod Marking

@@ -2,6 +2,7 @@
 #![tactic(auto)]
 
 mod flags;
+mod marks;
 mod parts;
 mod points;
 

@@ -7,6 +7,7 @@ ghost use Rattle.mesh_defs.specs.Tables.{corner_count, dim_of, facets_of, edges_
 ghost use Rattle.place_laws.specs.Places.{IsPlace};
 ghost use Rattle.element_points.specs.Parts.{part, vertex_parts, edge_parts, face_parts};
 ghost use Rattle.element_points.specs.Flags.{AreSet, has_dim};
+ghost use Rattle.element_points.specs.Marks.{AreMarks};
 
 use crate::flags::set_flag;
 use element_places::ElementPlaces;
@@ -17,10 +18,12 @@ use poly_tables::{Poly, edge_corner, edge_count, facet_corner, facet_count};
 pub(crate) fn set_vertices(
     found: &mut [bool],
     places: &ElementPlaces<'_>,
+    lower: &[bool],
     has_points: bool,
     nodes: &[u32],
 )
     requires each { length found.old ≡ length places.now.elements }
+    requires marks { AreMarks places.now lower.now }
     requires points { has_points ≡ has_dim places.now.elements 0 }
     requires place { IsPlace nodes.now }
     ensures { AreSet places.now.elements (vertex_parts nodes.now) found.old found.new }
@@ -29,7 +32,7 @@ pub(crate) fn set_vertices(
         return;
     }
     for node in nodes {
-        set_flag(found, places, Dim::Zero, &[*node]);
+        set_flag(found, places, lower, Dim::Zero, &[*node]);
     }
 }
 
@@ -49,11 +52,13 @@ fn edge(poly: Poly, nodes: &[u32], e: usize) -> [u32; 2]
 pub(crate) fn set_edges(
     found: &mut [bool],
     places: &ElementPlaces<'_>,
+    lower: &[bool],
     has_lines: bool,
     poly: Poly,
     nodes: &[u32],
 )
     requires each { length found.old ≡ length places.now.elements }
+    requires marks { AreMarks places.now lower.now }
     requires lines { has_lines ≡ has_dim places.now.elements 1 }
     requires place { IsPlace nodes.now }
     requires corners { length nodes.now ≡ corner_count poly }
@@ -63,7 +68,7 @@ pub(crate) fn set_edges(
         return;
     }
     for e in 0..edge_count(poly) {
-        set_flag(found, places, Dim::One, &edge(poly, nodes, e));
+        set_flag(found, places, lower, Dim::One, &edge(poly, nodes, e));
     }
 }
 
@@ -105,26 +110,28 @@ fn hex_face(nodes: &[u32], f: usize) -> [u32; 4]
 }
 
 /// Flags the elements on the faces of a tetrahedron.
-fn set_tet_faces(found: &mut [bool], places: &ElementPlaces<'_>, nodes: &[u32])
+fn set_tet_faces(found: &mut [bool], places: &ElementPlaces<'_>, lower: &[bool], nodes: &[u32])
     requires each { length found.old ≡ length places.now.elements }
+    requires marks { AreMarks places.now lower.now }
     requires place { IsPlace nodes.now }
     requires corners { length nodes.now ≡ 4 }
     ensures { AreSet places.now.elements (face_parts Tet nodes.now) found.old found.new }
 {
     for f in 0..facet_count(Poly::Tet) {
-        set_flag(found, places, Dim::Two, &tet_face(nodes, f));
+        set_flag(found, places, lower, Dim::Two, &tet_face(nodes, f));
     }
 }
 
 /// Flags the elements on the faces of a hexahedron.
-fn set_hex_faces(found: &mut [bool], places: &ElementPlaces<'_>, nodes: &[u32])
+fn set_hex_faces(found: &mut [bool], places: &ElementPlaces<'_>, lower: &[bool], nodes: &[u32])
     requires each { length found.old ≡ length places.now.elements }
+    requires marks { AreMarks places.now lower.now }
     requires place { IsPlace nodes.now }
     requires corners { length nodes.now ≡ 8 }
     ensures { AreSet places.now.elements (face_parts Hex nodes.now) found.old found.new }
 {
     for f in 0..facet_count(Poly::Hex) {
-        set_flag(found, places, Dim::Two, &hex_face(nodes, f));
+        set_flag(found, places, lower, Dim::Two, &hex_face(nodes, f));
     }
 }
 
@@ -133,11 +140,13 @@ fn set_hex_faces(found: &mut [bool], places: &ElementPlaces<'_>, nodes: &[u32])
 pub(crate) fn set_faces(
     found: &mut [bool],
     places: &ElementPlaces<'_>,
+    lower: &[bool],
     has_faces: bool,
     poly: Poly,
     nodes: &[u32],
 )
     requires each { length found.old ≡ length places.now.elements }
+    requires marks { AreMarks places.now lower.now }
     requires faces { has_faces ≡ has_dim places.now.elements 2 }
     requires place { IsPlace nodes.now }
     requires corners { length nodes.now ≡ corner_count poly }
@@ -147,8 +156,8 @@ pub(crate) fn set_faces(
         return;
     }
     match poly {
-        Poly::Tet => set_tet_faces(found, places, nodes),
-        Poly::Hex => set_hex_faces(found, places, nodes),
+        Poly::Tet => set_tet_faces(found, places, lower, nodes),
+        Poly::Hex => set_hex_faces(found, places, lower, nodes),
         _ => {}
     }
 }

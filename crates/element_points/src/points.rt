@@ -6,7 +6,9 @@ ghost use Rattle.input_defs.specs.Meshes.{poly, vertex_nodes, cell_elements, cel
 ghost use Rattle.place_laws.specs.Places.{element_at, firsts_of};
 ghost use Rattle.element_points.specs.Parts.{parts_of, some_leads_to};
 ghost use Rattle.element_points.specs.Flags.{AreSet, AreDims, has_dim};
+ghost use Rattle.element_points.specs.Marks.{AreMarks};
 
+use crate::marks::lower_nodes;
 use crate::parts::{set_edges, set_faces, set_vertices};
 use element_places::{ElementPlaces, dim_of_type, poly_of_type};
 use msh_reader::MshText;
@@ -45,8 +47,9 @@ impl Dims {
 }
 
 /// Flags the elements on the parts of the element at place `i`.
-fn set_parts(found: &mut [bool], places: &ElementPlaces<'_>, dims: Dims, i: usize)
+fn set_parts(found: &mut [bool], places: &ElementPlaces<'_>, lower: &[bool], dims: Dims, i: usize)
     requires each { length found.old ≡ length places.now.elements }
+    requires marks { AreMarks places.now lower.now }
     requires dims { AreDims places.now.elements dims.points dims.lines dims.faces }
     requires element { i < length places.now.elements }
     ensures { AreSet places.now.elements (parts_of (poly (element_at places.now.elements i)) (element_at places.now.elements i).nodes) found.old found.new }
@@ -57,10 +60,10 @@ fn set_parts(found: &mut [bool], places: &ElementPlaces<'_>, dims: Dims, i: usiz
     let _nodes = text.nodes();
     let element = text.element(i);
     let poly = poly_of_type(element.kind);
-    set_vertices(found, places, dims.points, element.nodes);
+    set_vertices(found, places, lower, dims.points, element.nodes);
     found[places.first(i)] = true;
-    set_faces(found, places, dims.faces, poly, element.nodes);
-    set_edges(found, places, dims.lines, poly, element.nodes);
+    set_faces(found, places, lower, dims.faces, poly, element.nodes);
+    set_edges(found, places, lower, dims.lines, poly, element.nodes);
 }
 
 /// A flag for each element of a file: whether it is the first one on some part of a cell.
@@ -70,10 +73,11 @@ fn found_on_cells(alloc: Global, places: &ElementPlaces<'_>) -> Result<Vec<bool>
 {
     let text = places.text();
     let dims = Dims::of(text);
+    let lower = lower_nodes(alloc, places)?;
     let mut found = vec![in alloc; false; text.elements()]?;
     let cells = places.cells();
     for cell in cells {
-        set_parts(&mut found, places, dims, *cell as usize);
+        set_parts(&mut found, places, &lower, dims, *cell as usize);
     }
     Ok(found)
 }
