@@ -1,15 +1,14 @@
 -- Orientations and places by strata, and cones made of them.
-use Rattle.std.proofs.Common.{◌≡◌, ◌≢◌, ◌⊎◌, ℕ, ◌+◌, ◌-◌, ◌*◌, ◌<◌, Bool, true, false, cond, ◌||◌, ◌&&◌, ◌==◌, List, [], ◌∷◌, ◌++◌, map, length, slice_index, ℤ, pos, Option, Some, None, refl, sym, ap, ap₂, ◌∙◌, subst, inl, inr, append_assoc, length-append, arith}
-use Rattle.std.specs.Prelude.{find, option_map, option_and_then, unwrap_or, if◌then◌else◌}
-use Rattle.std.specs.List.{list_any, position_or_len, AllByRecursion, filter, enumerate_from}
-use Rattle.std.proofs.lemmas.Bool.{and_parts, eqb-true, eq-eqb, ne_eqb, or_right}
+use Rattle.std.proofs.Common.{◌≡◌, ◌≢◌, ℕ, ◌+◌, ◌-◌, ◌<◌, true, false, ◌||◌, ◌==◌, List, [], ◌∷◌, ◌++◌, map, length, slice_index, pos, Option, Some, None, refl, sym, ap, ap₂, ◌∙◌, inl, inr, length-append, arith}
+use Rattle.std.specs.Prelude.{find, option_map, option_and_then, unwrap_or}
+use Rattle.std.specs.List.{list_any, position_or_len, AllByRecursion, filter}
+use Rattle.std.proofs.lemmas.Bool.{and_parts, eqb-true, eq-eqb, or_right}
 use Rattle.std.proofs.lemmas.List.{length-map}
 use Rattle.std.proofs.lemmas.List.FromFn.{length-enumerate_from}
 use Rattle.std.proofs.lemmas.List.Folds.{list_any-append}
 use Rattle.mesh_defs.specs.declared.Poly.{Poly}
 use Rattle.mesh_defs.specs.declared.Poly.TheVariants.{Vertex, Segment, Triangle, Quad, Tet, Hex}
-use Rattle.mesh_defs.specs.declared.ConeEntry.{ConeEntry}
-use Rattle.plain_lists.specs.Lists.{below, same_list, sorted, picked}
+use Rattle.plain_lists.specs.Lists.{below, same_list, picked}
 use Rattle.plain_lists.proofs.Each.{all_weaker}
 use Rattle.plain_lists.proofs.Filters.{map_same}
 use Rattle.plain_lists.proofs.Finding.{find-append_found, find-append_none, find-filter, found-any, position-append_found, position-append_none}
@@ -24,9 +23,9 @@ use Rattle.mesh_defs.specs.RightMesh.{IsFlatOrSolid, IsSoundMesh, CellsDiffer}
 use Rattle.mesh_laws.proofs.Firsts.{find-firsts}
 use Rattle.mesh_laws.proofs.Turns.{relative-vertex}
 use Rattle.mesh_laws.proofs.Vertices.{vertex_below, vertex_place, vertex_found}
-use Rattle.diagram_laws.specs.Strata.{whole_sights, face_sights, edge_sights, mesh_faces, mesh_edges, mesh_points, turn_among, entry_from, cone_from, end_entry}
-use Rattle.diagram_laws.proofs.Parts.{of_dim, wholes-filtered, faces-filtered, faces-none, edges-filtered, cell-dims, chart-parts}
-use Rattle.diagram_laws.proofs.Edges.{OfDim, none-of_dim, vertices-of_dim, wholes-of_dim, faces-of_dim, edges-of_dim}
+use Rattle.diagram_laws.specs.Strata.{whole_sights, face_sights, edge_sights, mesh_faces, mesh_edges, turn_among, entry_from, cone_from, end_entry}
+use Rattle.diagram_laws.proofs.Parts.{of_dim, faces-filtered, edges-filtered, cell-dims, chart-parts}
+use Rattle.diagram_laws.proofs.Edges.{none-of_dim, vertices-of_dim, wholes-of_dim, faces-of_dim}
 
 -- ---- orientations
 

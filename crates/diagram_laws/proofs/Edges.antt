@@ -1,16 +1,15 @@
 -- The points of each stratum: their dimensions, and the ends of edges.
-use Rattle.std.proofs.Common.{◌≡◌, ◌≢◌, ◌⊎◌, ℕ, ◌+◌, ◌*◌, ◌<◌, true, false, ◌&&◌, ◌==◌, nat_lt, List, [], ◌∷◌, ◌++◌, map, length, get_or, slice_index, refl, sym, ap, ◌∙◌, subst, inl, inr, arith}
-use Rattle.std.specs.List.{list_any, list_all, AllByRecursion, filter, enumerate_from}
+use Rattle.std.proofs.Common.{◌≡◌, ◌≢◌, ℕ, ◌<◌, true, false, ◌==◌, List, map, length, get_or, slice_index, refl, sym, ◌∙◌, subst, inl, inr, arith}
+use Rattle.std.specs.List.{list_any, AllByRecursion, filter, enumerate_from}
 use Rattle.std.proofs.lemmas.Bool.{and_parts, and_left, eqb-true, ne_eqb}
 use Rattle.std.proofs.lemmas.List.{length-map}
-use Rattle.mesh_defs.specs.declared.Poly.TheVariants.{Vertex, Segment, Triangle, Quad, Tet, Hex}
 use Rattle.plain_lists.specs.Lists.{below, same_list, picked}
-use Rattle.plain_lists.proofs.Each.{all_weaker, all_both, all_from, all_map, all_at, all_flat_map, all_enumerated, each_passes}
+use Rattle.plain_lists.proofs.Each.{all_weaker, all_from, all_map, all_at, all_flat_map, all_enumerated, each_passes}
 use Rattle.plain_lists.proofs.Filters.{filter_passing}
 use Rattle.plain_lists.proofs.Finding.{none_passes}
-use Rattle.mesh_defs.specs.Tables.{Facet, dim_of, corner_count, facets_of, edges_of}
+use Rattle.mesh_defs.specs.Tables.{dim_of, corner_count, edges_of}
 use Rattle.mesh_defs.specs.Mesh.{Mesh, Cell, placed_cells}
-use Rattle.mesh_defs.specs.Points.{Point, Sight, point_of, shows, cell_edge, cell_edges, vertex_sight, vertex_sights, sights}
+use Rattle.mesh_defs.specs.Points.{Point, Sight, point_of, shows, cell_edge, cell_edges, vertex_sight, sights}
 use Rattle.mesh_defs.specs.Sights.{IsEdgeSight}
 use Rattle.mesh_defs.specs.RightMesh.{IsFlatOrSolid, IsSoundCell, IsSoundMesh}
 use Rattle.mesh_laws.proofs.Firsts.{firsts-all}

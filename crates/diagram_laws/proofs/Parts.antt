@@ -1,5 +1,5 @@
 -- The strata of a mesh of sound cells: the cells, the vertices, and the first sights of faces and of edges.
-use Rattle.std.proofs.Common.{◌≡◌, ◌⊎◌, ℕ, ◌+◌, ◌*◌, Bool, true, false, cond, not, ◌||◌, ◌&&◌, ◌==◌, List, [], ◌∷◌, ◌++◌, map, length, refl, sym, ap, ap₂, ◌∙◌, subst, inl, inr, append-nil, append_assoc, arith}
+use Rattle.std.proofs.Common.{◌≡◌, ◌⊎◌, ℕ, ◌+◌, Bool, false, cond, not, ◌||◌, ◌&&◌, ◌==◌, List, [], ◌∷◌, ◌++◌, map, refl, sym, ap, ap₂, ◌∙◌, subst, inl, inr, arith}
 use Rattle.std.specs.Prelude.{flat_map, if◌then◌else◌}
 use Rattle.std.specs.List.{list_any, AllByRecursion, filter, enumerate_from}
 use Rattle.std.proofs.lemmas.Bool.{eq-eqb, ne_eqb}
@@ -10,10 +10,9 @@ use Rattle.mesh_defs.specs.declared.Poly.TheVariants.{Vertex, Segment, Triangle,
 use Rattle.plain_lists.specs.Lists.{same_set, same_list, sorted, differ_as_sets}
 use Rattle.plain_lists.proofs.Each.{all_weaker, all_enumerated}
 use Rattle.plain_lists.proofs.Filters.{flat_map_same}
-use Rattle.plain_lists.proofs.Finding.{any_map, any_enumerated}
 use Rattle.mesh_defs.specs.Tables.{dim_of}
 use Rattle.mesh_defs.specs.Mesh.{Mesh, Cell, placed_cells}
-use Rattle.mesh_defs.specs.Points.{Sight, point_of, point_on, shows, cell_sight, cell_faces, cell_edges, sights_of, sights, vertex_sights}
+use Rattle.mesh_defs.specs.Points.{Sight, point_on, shows, cell_sight, cell_faces, cell_edges, sights_of, sights, vertex_sights}
 use Rattle.mesh_defs.specs.Diagram.{firsts, stratum, strata, chart}
 use Rattle.mesh_defs.specs.Sights.{points_differ}
 use Rattle.mesh_defs.specs.RightMesh.{IsFlatOrSolid, IsSoundCell, IsSoundMesh, CellsDiffer}

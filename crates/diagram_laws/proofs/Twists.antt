@@ -1,14 +1,12 @@
 -- The faces of cells are among the faces of the mesh, and a twist is told by them.
-use Rattle.std.proofs.Common.{◌≡◌, ℕ, ◌+◌, ◌-◌, ◌*◌, Bool, true, false, cond, ◌&&◌, ◌==◌, List, [], ◌∷◌, map, length, Option, Some, None, refl, sym, ap, ◌∙◌, inl, inr, arith}
-use Rattle.std.specs.Prelude.{find, option_map, is_none, flat_map, if◌then◌else◌}
+use Rattle.std.proofs.Common.{◌≡◌, ℕ, ◌+◌, ◌-◌, Bool, true, false, cond, ◌&&◌, ◌==◌, List, [], ◌∷◌, map, length, sym, ap, ◌∙◌, inl, inr, arith}
+use Rattle.std.specs.Prelude.{find, option_map, is_none}
 use Rattle.std.specs.List.{list_any, AllByRecursion, filter, enumerate_from}
 use Rattle.std.proofs.lemmas.Bool.{eq-eqb, ne_eqb}
 use Rattle.plain_lists.specs.Lists.{picked}
 use Rattle.plain_lists.proofs.Each.{all_weaker, all_both, all_in_flat_map, all_mapped, all_from}
 use Rattle.plain_lists.proofs.Filters.{filter_agree, filter_none}
 use Rattle.plain_lists.proofs.Finding.{find_agree}
-use Rattle.mesh_defs.specs.declared.Poly.{Poly}
-use Rattle.mesh_defs.specs.declared.Poly.TheVariants.{Vertex, Segment, Triangle, Quad, Tet, Hex}
 use Rattle.mesh_defs.specs.Tables.{Facet, dim_of, facets_of}
 use Rattle.mesh_defs.specs.Mesh.{Mesh, Cell, placed_cells}
 use Rattle.mesh_defs.specs.Points.{Sight, point_on, point_of, shows, cell_face, cell_faces, sights}
@@ -16,7 +14,7 @@ use Rattle.mesh_defs.specs.Diagram.{place_in, chart, seen_under, twist_key, cone
 use Rattle.mesh_defs.specs.RightMesh.{IsFlatOrSolid, IsSoundMesh, CellsDiffer}
 use Rattle.mesh_laws.proofs.Firsts.{shown_among_firsts}
 use Rattle.plain_lists.proofs.Filters.{map_same}
-use Rattle.diagram_laws.specs.Strata.{face_sights, mesh_faces, mesh_edges, turn_among, entry_from, cone_from, first_twist}
+use Rattle.diagram_laws.specs.Strata.{face_sights, mesh_faces, turn_among, entry_from, cone_from, first_twist}
 use Rattle.diagram_laws.proofs.Parts.{of_dim, faces-filtered, faces-none, cell-dims}
 use Rattle.diagram_laws.proofs.Edges.{OfDim, face_sights-of_dim}
 use Rattle.diagram_laws.proofs.Cones.{turn-face, entry-face, facets-lower}

@@ -1,9 +1,9 @@
 -- The diagram of a whole mesh, by the places of first sights.
-use Rattle.std.proofs.Common.{◌≡◌, ◌≢◌, ◌⊎◌, ℕ, zero, suc, ◌+◌, ◌*◌, ◌<◌, Bool, true, false, cond, ◌==◌, List, [], ◌∷◌, ◌++◌, map, length, refl, sym, ap, ap₂, ◌∙◌, subst, inl, inr, arith}
-use Rattle.std.specs.Prelude.{count_by, if◌then◌else◌}
+use Rattle.std.proofs.Common.{◌≡◌, ◌≢◌, ℕ, zero, suc, ◌+◌, ◌*◌, ◌<◌, Bool, true, false, ◌==◌, List, [], ◌∷◌, ◌++◌, map, length, refl, sym, ap, ap₂, ◌∙◌, inl, inr, arith}
+use Rattle.std.specs.Prelude.{if◌then◌else◌}
 use Rattle.std.specs.List.{AllByRecursion, enumerate_from, range_with_len}
 use Rattle.std.proofs.lemmas.Bool.{eq-eqb, ne_eqb}
-use Rattle.std.proofs.lemmas.List.{length-map, map-append, map_push, map-id}
+use Rattle.std.proofs.lemmas.List.{map-append, map_push, map-id}
 use Rattle.std.proofs.lemmas.List.FromFn.{map-range_with_len_more}
 use Rattle.mesh_defs.specs.declared.Poly.TheVariants.{Vertex}
 use Rattle.plain_lists.specs.Lists.{below}
@@ -16,7 +16,7 @@ use Rattle.mesh_defs.specs.Diagram.{firsts, chart, place_in, cone, count_in, Cov
 use Rattle.mesh_defs.specs.Sights.{IsEdgeSight}
 use Rattle.mesh_defs.specs.RightMesh.{IsFlatOrSolid, IsSoundMesh, CellsDiffer}
 use Rattle.std.specs.List.{list_any}
-use Rattle.diagram_laws.specs.Strata.{whole_sights, mesh_faces, mesh_edges, mesh_points, cone_from, cell_cover, bare_cover, face_cover, edge_cover, mesh_diagram, mesh_keys}
+use Rattle.diagram_laws.specs.Strata.{whole_sights, mesh_faces, mesh_edges, cone_from, cell_cover, bare_cover, face_cover, edge_cover, mesh_diagram, mesh_keys}
 use Rattle.diagram_laws.proofs.Parts.{faces-none, cell-dims, chart-parts}
 use Rattle.diagram_laws.proofs.Edges.{OfDim, vertices-of_dim, wholes-of_dim, faces-of_dim, edges-of_dim, edges-are}
 use Rattle.diagram_laws.proofs.Cones.{length-wholes, length-vertices, cone-polygon, cone-edge, cone-vertex}
