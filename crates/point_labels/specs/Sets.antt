@@ -1,0 +1,31 @@
+-- Sets of up to eight vertices.
+use Rattle.std.specs.Prelude.{◌≡◌, ℕ, ℤ, ◌-◌, ◌<◌, ◌≤◌, List, ◌++◌, length, map, replicate}
+use Rattle.std.specs.List.{AllByRecursion}
+use Rattle.plain_lists.specs.Lists.{below, sorted}
+use Rattle.mesh_defs.specs.Mesh.{Mesh, Cell, placed_cells}
+use Rattle.mesh_defs.specs.Diagram.{chart}
+use Rattle.plex_defs.specs.Labels.{mesh_label}
+
+-- what stands behind the vertices of a set of fewer than eight
+abbrev pub no_vertex : ℕ
+no_vertex = 4294967295
+
+-- up to eight vertices, rising, with what is no vertex behind them
+unfoldable pub filled : List ℕ → List ℕ
+filled vertices = sorted (vertices ++ replicate (8 - length vertices) no_vertex)
+
+abbrev pub filled_set : Cell → List ℕ
+filled_set cell = filled cell.vertices
+
+-- at most eight vertices
+pub record IsShort (vertices : List ℕ) : Type 0 where
+  pub few : length vertices ≤ 8
+  pub low : AllByRecursion (λ v. v < no_vertex) vertices
+
+-- these are the sets of the cells of a mesh
+pub record IsTableOf (m : Mesh) (sets : List (List ℕ)) : Type 0 where
+  pub found : sets ≡ map filled_set m.cells
+
+-- the labels of points of dimension 0 to 3, by their places in the chart of all cells
+abbrev pub mesh_labels : Mesh → List (List (ℕ × ℤ))
+mesh_labels m = map (λ dim. mesh_label m dim (chart m (placed_cells m))) (below 4)
