@@ -1,7 +1,6 @@
 -- Without a plan file the whole text is the text of the mesh on one rank.
-use Rattle.std.proofs.Common.{◌≡◌, ℕ, zero, suc, ◌*◌, ◌/◌, ◌<◌, ◌≤◌, ◌==◌, List, [], ◌∷◌, ◌++◌, map, length, get_or, slice_index, fold, min, refl, sym, ap, ◌∙◌, arith, append_assoc, append-nil}
+use Rattle.std.proofs.Common.{◌≡◌, ℕ, zero, suc, ◌*◌, ◌/◌, ◌<◌, ◌≤◌, ◌==◌, List, [], ◌∷◌, ◌++◌, map, length, get_or, slice_index, fold, min, refl, ap, ◌∙◌, arith, append_assoc, append-nil}
 use Rattle.std.specs.Prelude.{flat_map, filter, unwrap_or, decimal, codes}
-use Rattle.std.specs.Fmt.{signed_decimal}
 use Rattle.std.specs.List.{enumerate_from, AllByRecursion}
 use Rattle.std.proofs.lemmas.Bool.{eq-eqb}
 use Rattle.std.proofs.Math.Nat.{div-eq_of_lt}
@@ -10,20 +9,19 @@ use Rattle.plain_lists.proofs.Each.{all_from, all_map, all_weaker}
 use Rattle.plain_lists.proofs.Filters.{filter_whole, flat_map_same}
 use Rattle.plain_lists.proofs.Below.{below-all}
 use Rattle.plain_lists.proofs.Least.{least-bound}
-use Rattle.mesh_defs.specs.Mesh.{Mesh, Mark, Section, Cell, placed_cells}
-use Rattle.mesh_defs.specs.Points.{Point, Sight, point_of, same_point, contains, marked_point}
+use Rattle.mesh_defs.specs.Mesh.{Mesh, Cell, placed_cells}
+use Rattle.mesh_defs.specs.Points.{Point, Sight, point_of, contains}
 use Rattle.mesh_defs.specs.Diagram.{chart, cone}
-use Rattle.text_defs.specs.Text.{alone, number_of, tag, line, mesh_line, ranks_line, tail_text, point_line, head_text, rank_text, total_text, point_text, points_text, step_line, plain_step_text as plain_step, end_line, plain_text}
+use Rattle.text_defs.specs.Text.{alone, number_of, tag, line, tail_text, rank_text, total_text, step_line, end_line}
 use Rattle.sf_defs.specs.declared.Op.TheVariants.{Sum}
 use Rattle.sf_defs.specs.declared.Ask.{Ask}
 use Rattle.sf_defs.specs.Asks.{Replays}
 use Rattle.sf_defs.specs.PrintedOrder.{printed_order}
 use Rattle.sf_defs.specs.Rounds.{Round, entry_at, printed_turns}
-use Rattle.plex_defs.specs.Labels.{values_at, label_of}
 use Rattle.rank_defs.specs.Home.{IsNumberRound, number_asks, bases_of}
 use Rattle.rank_defs.specs.Ranks.{least, rank_of, assigned, held_cells, held, ranks_at, owner, owned}
 use Rattle.input_defs.specs.Plans.{Part, Block, plain_plan, rank_by}
-use Rattle.input_defs.specs.Further.{name_line, section_line, labels_at, label_text, labels_text, data_at, values_text, data_text, full_head}
+use Rattle.input_defs.specs.Further.{labels_text, data_text, full_point, full_head, full_text}
 use Rattle.input_defs.specs.States.{State, states, assignment, first_ranks}
 use Rattle.headline_defs.specs.Rounds.{due, AreAll}
 use Rattle.headline_defs.specs.Lines.{move_line, point_tail, owned_line}
@@ -113,41 +111,23 @@ base-zero m ranks r is =
 
 -- ---- lines
 
-module _ (m : Mesh) (names : m.names ≡ []) (fields : m.fields ≡ []) (marks : m.marks ≡ []) where
-  -- a mesh without marks has no labels
-  no_labels : (p : Point) → labels_text m p ≡ []
-  unfolding labels_text labels_at
-  no_labels p = ap (λ (ks : List Mark). flat_map (λ v. label_text m.dim p.dim ++ signed_decimal v) (values_at (label_of (map (λ value. (0, value)) (map (λ (k : Mark). k.value) (filter (λ k. same_point p (marked_point k)) ks)))) 0)) marks
+-- parts of a point's line
+line-shape : (before tail labels values : List ℕ) → before ++ (tail ++ labels ++ values) ≡ before ++ tail ++ labels ++ values
+line-shape before tail labels values = simp append_assoc refl
 
-  -- a mesh without fields has no data
-  no_data : (s : Sight) → data_text m [] s ≡ []
-  unfolding data_text
-  no_data s = ap (λ (fs : List Section). flat_map (λ (f : ℕ × Section). values_text f.0 (data_at m s f.1)) (enumerate_from 0 fs) ++ []) fields
+module _ (m : Mesh) where
+  line-same : (number : Point → ℕ) (p : ℕ × Sight) → owned_line m [] p.0 (cone m number p.1) p.1 ≡ full_point m [] number p
+  unfolding owned_line full_point point_tail
+  line-same number p =
+      ap line (line-shape (codes "P " ++ decimal p.0 ++ codes " " ++ tag m.dim p.1.poly p.1.key) (tail_text p.1.poly (cone m number p.1) (get_or m.at p.1.key [])) (labels_text m (point_of p.1)) (data_text m [] p.1))
 
-  tail-same : (cone : _) (s : Sight) → point_tail m [] cone s ≡ tail_text s.poly cone (get_or m.at s.key [])
-  unfolding point_tail
-  tail-same cone s =
-      let tail = tail_text s.poly cone (get_or m.at s.key []) in
-      (λ i. (tail ++ no_labels (point_of s) i) ++ no_data s i) ∙ append-nil (tail ++ []) ∙ append-nil tail
-
-  line-same : (number : Point → ℕ) (p : ℕ × Sight) → owned_line m [] p.0 (cone m number p.1) p.1 ≡ point_text m number p
-  unfolding owned_line point_text point_line
-  line-same number p = ap (λ tail. line (codes "P " ++ decimal p.0 ++ codes " " ++ tag m.dim p.1.poly p.1.key ++ tail)) (tail-same (cone m number p.1) p.1)
-
-  points-same : owned_text m [] (alone m ∷ []) ≡ points_text m (alone m ∷ [])
-  unfolding owned_text points_text
+  points-same : owned_text m [] (alone m ∷ []) ≡ flat_map (full_point m [] (number_of (alone m ∷ []))) (enumerate_from 0 (alone m).owned)
+  unfolding owned_text alone
   points-same =
       let points = enumerate_from (alone m).base (alone m).owned in
       let number = number_of (alone m ∷ []) in
       ap (flat_map (λ (p : ℕ × Sight). owned_line m [] p.0 (cone m number p.1) p.1)) (append-nil points)
-      ∙ flat_map_same _ (point_text m number) points (all_from _ (line-same number) points)
-      ∙ sym (append-nil (flat_map (point_text m number) points))
-
-  head-same : full_head m [] 1 ≡ head_text m (alone m ∷ [])
-  unfolding full_head head_text
-  head-same =
-      let first = mesh_line m.dim (length m.cells) (length m.at) m.unused m.loose m.merged in
-      (λ i. first ++ flat_map name_line (names i) ++ flat_map section_line (enumerate_from 0 (fields i)) ++ [] ++ ranks_line 1) ∙ simp append-nil
+      ∙ flat_map_same _ (full_point m [] number) points (all_from _ (line-same number) points)
 
   -- ---- the one step
 
@@ -157,25 +137,32 @@ module _ (m : Mesh) (names : m.names ≡ []) (fields : m.fields ≡ []) (marks :
   abbrev step : State
   step = record { move = Part Block; ranks = ranks m; layers = 0; steps = 1; parts = 1 }
 
-  details-same : (home latest : Round) → step_details subject step home latest (alone m ∷ []) ≡ flat_map rank_text (enumerate_from 0 (alone m ∷ [])) ++ total_text m (alone m ∷ []) ++ points_text m (alone m ∷ [])
+  -- the lines of all points
+  abbrev all_points : List ℕ
+  all_points = flat_map (full_point m [] (number_of (alone m ∷ []))) (enumerate_from 0 (alone m).owned)
+
+  details-same : (home latest : Round) → step_details subject step home latest (alone m ∷ []) ≡ rank_text (0, alone m) ++ total_text m (alone m ∷ []) ++ all_points
   unfolding step_details ghosts_text
   details-same home latest =
       (λ i. flat_map rank_text (enumerate_from 0 (alone m ∷ [])) ++ [] ++ total_text m (alone m ∷ []) ++ points-same i ++ [] ++ [] ++ [] ++ [] ++ [])
       ∙ simp append-nil
 
-  step-same : (home latest : Round) → IsNumberRound m (ranks m) 1 latest → step_lines subject step home latest ≡ plain_step m 0 (alone m ∷ [])
-  unfolding step_lines plain_step move_line
+  step-same : (home latest : Round) → IsNumberRound m (ranks m) 1 latest → step_lines subject step home latest ≡ step_line 0 ++ (rank_text (0, alone m) ++ total_text m (alone m ∷ []) ++ all_points)
+  unfolding step_lines move_line
   step-same home latest is =
       (λ i. step_line 0 ++ step_details subject step home latest (one-rank m (bases_of latest) (base-zero m (ranks m) latest is) i))
-      ∙ ap (λ t. step_line 0 ++ t) (details-same home latest) ∙ simp append_assoc
+      ∙ ap (λ t. step_line 0 ++ t) (details-same home latest)
 
   -- ---- the text
 
-  pub plain : (rounds : List Round) → AreAll m 1 (due m plain_plan) rounds → whole_text subject rounds ≡ plain_text m
-  unfolding due states first_ranks whole_text text_of_steps plain_text
+  text-shape : (head first rank total points last : List ℕ) → (head ++ (first ++ (rank ++ total ++ points) ++ [])) ++ last ≡ head ++ first ++ rank ++ total ++ points ++ last
+  text-shape head first rank total points last = simp (append_assoc, append-nil) refl
+
+  pub plain : (rounds : List Round) → AreAll m 1 (due m plain_plan) rounds → whole_text subject rounds ≡ full_text m []
+  unfolding due states first_ranks whole_text text_of_steps full_text
   plain [] h = absurd h
   plain (home ∷ []) h = absurd h.1
   plain (home ∷ latest ∷ []) h =
-      (λ i. (head-same i ++ (step-same home latest h.1.0 i ++ [])) ++ end_line)
-      ∙ simp append-nil
+      (λ i. (full_head m [] 1 ++ (step-same home latest h.1.0 i ++ [])) ++ end_line)
+      ∙ text-shape (full_head m [] 1) (step_line 0) (rank_text (0, alone m)) (total_text m (alone m ∷ [])) all_points end_line
   plain (home ∷ latest ∷ more ∷ others) h = absurd h.1.1

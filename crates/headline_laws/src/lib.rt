@@ -8,11 +8,12 @@ ghost use Rattle.std.specs.List.{list_any};
 ghost use Rattle.mesh_defs.specs.Mesh.{Mesh, placed_cells};
 ghost use Rattle.mesh_defs.specs.Points.{Point, Sight, point_of, shows};
 ghost use Rattle.mesh_defs.specs.Diagram.{strata, chart, cone, IsAccepted};
-ghost use Rattle.text_defs.specs.Text.{number_of, plain_text};
+ghost use Rattle.text_defs.specs.Text.{number_of};
 ghost use Rattle.sf_defs.specs.Rounds.{Round};
 ghost use Rattle.rank_defs.specs.Ranks.{IsAssignment};
 ghost use Rattle.rank_defs.specs.Home.{IsNumberRound, bases_of, point_number};
 ghost use Rattle.mesh_defs.specs.RightMesh.{IsFlatOrSolid, IsSoundMesh, in_some};
+ghost use Rattle.input_defs.specs.Further.{full_text};
 ghost use Rattle.input_defs.specs.Plans.{plain_plan};
 ghost use Rattle.input_defs.specs.States.{State};
 ghost use Rattle.headline_defs.specs.Rounds.{due, AreAll};
@@ -39,10 +40,10 @@ pub fn numbers_are_drawn_once()
         (length printed ≡ slice_index r.after 0) × ((k : ℕ) → k < slice_index r.after 0 → count_by (λ x. x == k) printed ≡ 1) }
 {}
 
-/// Without a plan file the whole text of a mesh without names, data and labels is its text on one
-/// rank, whatever legal rounds were kept.
-pub fn plain_plan_prints_the_plain_text()
-    ensures { (m : Mesh) (rounds : List Round) → m.names ≡ [] → m.fields ≡ [] → m.marks ≡ [] → AreAll m 1 (due m plain_plan) rounds → whole_text (record { mesh = m; plan = plain_plan; show = plain_plan.shows }) rounds ≡ plain_text m }
+/// Without a plan file the whole text is the text of the mesh on one rank, whatever legal rounds were
+/// kept.
+pub fn plain_plan_prints_the_full_text()
+    ensures { (m : Mesh) (rounds : List Round) → AreAll m 1 (due m plain_plan) rounds → whole_text (record { mesh = m; plan = plain_plan; show = plain_plan.shows }) rounds ≡ full_text m [] }
 {}
 
 /// The number by which a cone names a point is the number under which the point is printed: its

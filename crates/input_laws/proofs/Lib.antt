@@ -13,7 +13,6 @@ pub mod Yields
 pub mod RightNumbers
 pub mod RightSections
 pub mod RightFiles
-pub mod PlainText
 pub mod RightAccepted
 pub mod Assignments
 pub mod Tasks

@@ -9,12 +9,10 @@ ghost use Rattle.plain_lists.specs.Lists.{sorted, differ_as_sets};
 ghost use Rattle.mesh_defs.specs.Mesh.{Mesh, Cell, Mark};
 ghost use Rattle.mesh_defs.specs.RightMesh.{IsRightMesh};
 ghost use Rattle.line_defs.specs.Rows.{lines_of};
-ghost use Rattle.text_defs.specs.Text.{plain_text};
 ghost use Rattle.input_defs.specs.Content.{Element, Content};
 ghost use Rattle.input_defs.specs.declared.MshFault.{MshFault};
 ghost use Rattle.input_defs.specs.Files.{content};
 ghost use Rattle.input_defs.specs.RightContent.{IsRight};
-ghost use Rattle.input_defs.specs.Further.{full_text};
 ghost use Rattle.input_defs.specs.Meshes.{accepted, cell_elements, cell_of, vertex_nodes, dim, same_place, is_point_of};
 ghost use Rattle.plex_defs.specs.Fields.{AreRightDofs};
 ghost use Rattle.rank_defs.specs.Ranks.{IsRightAssignment};
@@ -84,9 +82,4 @@ pub fn vertex_sets_differ()
 pub fn fault_is_local()
     ensures before_the_last_line { (a b : List ℕ) (fault : MshFault) (line : ℕ) → content a ≡ Err fault → line_of fault ≤ line → line < length (lines_of a) → take line (lines_of a) ≡ take line (lines_of b) → content b ≡ Err fault }
     ensures on_the_last_line { (a b : List ℕ) (fault : MshFault) (line : ℕ) → content (a ++ 10 ∷ []) ≡ Err fault → line_of fault ≤ line → line ≤ length (lines_of a) → take line (lines_of a) ≡ take line (lines_of b) → content b ≡ Err fault }
-{}
-
-/// Without marks, names and data the text of a mesh is the plain one.
-pub fn plain_text_is_a_case()
-    ensures { (m : Mesh) → m.marks ≡ [] → m.names ≡ [] → m.fields ≡ [] → full_text m [] ≡ plain_text m }
 {}

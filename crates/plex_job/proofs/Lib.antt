@@ -1,4 +1,2 @@
-pub mod Reporting
-pub mod Plain
-pub mod Forms
-pub mod Answering
+mod Answering
+mod Meshes

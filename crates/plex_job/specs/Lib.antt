@@ -1,5 +1,3 @@
 pub mod Words
-pub mod Drawing
 pub mod Answer
-pub mod Refusing
 pub mod Outcome

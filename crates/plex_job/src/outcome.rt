@@ -1,14 +1,14 @@
 //! What the top call has to say.
 
 ghost use Rattle.std.specs.Prelude.{◌≡◌};
-ghost use Rattle.cause_defs.specs.Reports.{Reports};
-ghost use Rattle.plex_job.specs.Outcome.{outcome_status, outcome_text};
+ghost use Rattle.report.specs.Delivery.{Delivers};
+ghost use Rattle.report.specs.Refusals.{HasLine};
+ghost use Rattle.plex_job.specs.Outcome.{IsSayable, outcome_status, outcome_text};
 
-use crate::refusal::{Refusal, write_refusal};
-use crate::report::write_mesh;
+use crate::drawing::Drawing;
 use cause_defs::ReportFault;
 use input_defs::Status;
-use triangle_serial::SerialMesh;
+use report::{Refusal, write_refusal};
 use shelf_io::Sink;
 use std::alloc::Global;
 
@@ -16,7 +16,7 @@ use std::alloc::Global;
 #[derive(Drop)]
 pub(crate) enum Outcome<'a> {
     Refused(Refusal<'a>),
-    Drawn(SerialMesh),
+    Drawn(Drawing),
 }
 
 impl Outcome<'_> {
@@ -30,15 +30,17 @@ impl Outcome<'_> {
     }
 }
 
+/// Writes the text of an outcome, and flushes.
 pub(crate) fn write_outcome<W: Sink>(
     alloc: Global,
     outcome: &Outcome<'_>,
     out: &mut W,
 ) -> Result<(), ReportFault>
-    ensures { Reports W.written W.flushed W.faults W.counts_failures_alone result out.old out.new (outcome_text outcome.now) }
+    requires { IsSayable outcome.now }
+    ensures { Delivers W.written W.flushed W.faults W.counts_failures_alone result out.old out.new (outcome_text outcome.now) }
 {
     match outcome {
         Outcome::Refused(refusal) => write_refusal(alloc, refusal, out),
-        Outcome::Drawn(mesh) => write_mesh(alloc, mesh, out),
+        Outcome::Drawn(drawing) => drawing.write(alloc, out),
     }
 }

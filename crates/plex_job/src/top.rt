@@ -1,25 +1,27 @@
 //! From words to a text.
 
-ghost use Rattle.std.specs.Prelude.{◌≡◌, ◌≤◌, ◌⊎◌, ℕ, true, List, length, map, Some, None, MatchOption, IfOk, string_bytes};
+ghost use Rattle.std.specs.Prelude.{◌≡◌, ◌≢◌, ◌≤◌, ◌⊎◌, ℕ, true, List, length, map, Some, None, MatchOption, IfOk, OnOk, string_bytes};
 ghost use Rattle.cause_defs.specs.Told.{told};
 ghost use Rattle.cause_defs.specs.Faults.{Rises, FailsTake};
-ghost use Rattle.cause_defs.specs.Written.{appended, AreFlushed};
-ghost use Rattle.triangle_defs.specs.Triangles.{triangles};
+ghost use Rattle.cause_defs.specs.Written.{AreFlushed};
 ghost use Rattle.input_defs.specs.declared.Status.{Status as Ending};
 ghost use Rattle.input_defs.specs.Words.{is_file_name};
+ghost use Rattle.plex_base.specs.declared.key.PointKey.{PointKey};
 ghost use Rattle.plex_job.specs.Words.{accepted_name};
-ghost use Rattle.plex_job.specs.Answer.{IsAnswer, AddsAnswer, AddsPart, verdict, verdict_on_content, OnAnswer, UnlessAnswer, OnWriteFault, UnlessWriteFault, OnNoMemory, UnlessFault, IsEndOf};
-ghost use Rattle.plex_job.specs.Outcome.{outcome_status, outcome_text};
+ghost use Rattle.plex_job.specs.Answer.{IsAnswer, AddsAnswer, AddsPart, verdict, verdict_on_mesh, drawn_mesh, OnAnswer, UnlessAnswer, OnWriteFault, UnlessWriteFault, OnNoMemory, UnlessFault};
+ghost use Rattle.plex_job.specs.Outcome.{IsSayable, outcome_status, outcome_text};
 
+use crate::drawing::Drawing;
 use crate::outcome::{Outcome, write_outcome};
-use crate::refusal::Refusal;
 use cause_defs::ReportFault;
-use input_defs::Status;
+use input_defs::{MeshFault, MshFault, Status};
+use mesh_check::accept;
+use msh_reader::read_msh;
 use plex_base::{MAX_FILE_BYTES, NoMemory};
-use triangle_serial::interpolate;
-use shelf_io::{Failed, Shelf, ShelfFault, Sink};
+use plex_serial::{SerialFault, interpolate};
+use report::Refusal;
+use shelf_io::{Shelf, ShelfFault, Sink};
 use std::alloc::Global;
-use triangle_reader::{MshFault, read_msh};
 
 /// The name of the mesh file, where the words are accepted.
 fn mesh_name(words: &[String]) -> Option<&str>
@@ -40,15 +42,55 @@ fn is_file_name(word: &[u8]) -> bool
     }
 }
 
+/// A file with this fault is refused, unless memory ran out.
+fn refuse_file<'a>(fault: MshFault) -> Result<Outcome<'a>, NoMemory>
+    ensures refusal { IfOk result (λ outcome. outcome ≡ Outcome.Refused (Refusal.Msh fault)) }
+    ensures fault { OnOk result (fault ≢ MshFault.NoMemory) }
+{
+    if fault == MshFault::NoMemory {
+        return Err(NoMemory);
+    }
+    Ok(Outcome::Refused(Refusal::Msh(fault)))
+}
+
+/// A content with this fault is refused, unless memory ran out.
+fn refuse_mesh<'a>(fault: MeshFault) -> Result<Outcome<'a>, NoMemory>
+    ensures refusal { IfOk result (λ outcome. outcome ≡ Outcome.Refused (Refusal.Mesh fault)) }
+    ensures fault { OnOk result (fault ≢ MeshFault.NoMemory) }
+{
+    if fault == MeshFault::NoMemory {
+        return Err(NoMemory);
+    }
+    Ok(Outcome::Refused(Refusal::Mesh(fault)))
+}
+
+/// A mesh with this fault is refused, unless memory ran out.
+fn refuse_diagram<'a>(fault: SerialFault) -> Result<Outcome<'a>, NoMemory>
+    ensures { IfOk result (λ outcome. (key : PointKey) × (fault ≡ SerialFault.Twist key) × (outcome ≡ Outcome.Refused (Refusal.Twist key))) }
+{
+    match fault {
+        SerialFault::Twist(key) => Ok(Outcome::Refused(Refusal::Twist(key))),
+        SerialFault::NoMemory => Err(NoMemory),
+    }
+}
+
 /// What the bytes of a mesh file give.
 fn draw<'a>(alloc: Global, bytes: &[u8]) -> Result<Outcome<'a>, NoMemory>
     requires { length bytes.now ≤ MAX_FILE_BYTES }
-    ensures { IfOk result (λ outcome. verdict_on_content (triangles bytes.now) ≡ (outcome_status outcome, outcome_text outcome)) }
+    ensures verdict { IfOk result (λ outcome. verdict_on_mesh (drawn_mesh bytes.now) ≡ (outcome_status outcome, outcome_text outcome)) }
+    ensures sayable { IfOk result (λ outcome. IsSayable outcome) }
 {
-    match read_msh(alloc, bytes) {
-        Ok(text) => Ok(Outcome::Drawn(interpolate(alloc, &text)?)),
-        Err(MshFault::NotYet) => Ok(Outcome::Refused(Refusal::NotYet)),
-        Err(MshFault::NoMemory) => Err(NoMemory),
+    let text = match read_msh(alloc, bytes) {
+        Ok(text) => text,
+        Err(fault) => return refuse_file(fault),
+    };
+    let mesh = match accept(alloc, text) {
+        Ok(mesh) => mesh,
+        Err(fault) => return refuse_mesh(fault),
+    };
+    match interpolate(alloc, &mesh) {
+        Ok(diagram) => Ok(Outcome::Drawn(Drawing { mesh, diagram })),
+        Err(fault) => refuse_diagram(fault),
     }
 }
 
@@ -62,6 +104,7 @@ fn answer<'a, S: Shelf>(
         (FailsTake S.faults S.last_failed shelf.old shelf.new) (outcome_status outcome) (outcome_text outcome)) }
     ensures refused_words { accepted_name (map string_bytes words.now) ≡ None → shelf.new ≡ shelf.old }
     ensures count { IfOk result (λ outcome. UnlessFault (outcome_status outcome) (S.faults shelf.new ≡ S.faults shelf.old)) }
+    ensures sayable { IfOk result (λ outcome. IsSayable outcome) }
 {
     let Some(name) = mesh_name(words) else {
         return Ok(Outcome::Refused(Refusal::Words));
@@ -76,13 +119,13 @@ fn answer<'a, S: Shelf>(
 }
 
 /// Reads the mesh file that the words name, and writes the oriented diagram of its mesh: cells,
-/// vertices and edges with their cones, on one rank.
+/// vertices, faces and edges with their cones, labels and data, on one rank.
 ///
 /// `words` are those after the program's name: one word, the name of a file on the shelf. Each line
 /// with its LF is one `write`, and a whole answer is flushed.
 ///
-/// The diagram is that of DMPlex after interpolation; the file is one of triangles in the MSH
-/// format 2.2 of the Gmsh manual.
+/// The diagram is that of DMPlex after interpolation; the file is one in the MSH format 2.2 of the Gmsh
+/// manual, as text.
 pub fn job<S: Shelf, W: Sink>(alloc: Global, words: &[String], shelf: &mut S, out: &mut W) -> Status
     // A whole answer is the text of its status and nothing else, for its cause, and is flushed.
     ensures answer { OnAnswer result (AddsAnswer (map string_bytes words.now) (S.file shelf.old)
@@ -117,24 +160,8 @@ pub fn job<S: Shelf, W: Sink>(alloc: Global, words: &[String], shelf: &mut S, ou
         return Status::NoMemory;
     };
     match write_outcome(alloc, &outcome, out) {
-        Ok(()) => finish(&outcome, out),
+        Ok(()) => outcome.status(),
         Err(ReportFault::Write) => Status::WriteFault,
         Err(ReportFault::NoMemory) => Status::NoMemory,
-    }
-}
-
-/// Flushes a whole answer.
-fn finish<W: Sink>(outcome: &Outcome<'_>, out: &mut W) -> Status
-    ensures status { IsEndOf result (outcome_status outcome.now) }
-    ensures written { W.written out.new ≡ W.written out.old }
-    ensures flushed { OnAnswer result (AreFlushed (W.written out.new) (W.flushed out.new)) }
-    ensures write_fault { OnWriteFault result (Rises (W.faults out.old) (W.faults out.new)) }
-    ensures never_falls { W.faults out.old ≤ W.faults out.new }
-    ensures sink_count { W.counts_failures_alone out.old ≡ true → UnlessWriteFault result (W.faults out.new ≡ W.faults out.old) }
-    ensures fault_flush { UnlessAnswer result (W.flushed out.new ≡ W.flushed out.old) }
-{
-    match out.flush() {
-        Ok(()) => outcome.status(),
-        Err(Failed) => Status::WriteFault,
     }
 }

@@ -8,6 +8,7 @@ use crate::keys::keys_of;
 use crate::serial_mesh::SerialMesh;
 use local_points::LocalPoints;
 use plex_mesh::Mesh;
+use point_labels::label_points;
 use std::alloc::Global;
 
 /// The diagram of a mesh, with faces and edges between its cells and vertices, and the orientations
@@ -15,10 +16,11 @@ use std::alloc::Global;
 ///
 /// A mesh with a twisted face is refused, with the least key of such a face.
 pub fn interpolate(alloc: Global, mesh: &Mesh) -> Result<SerialMesh, SerialFault>
-    ensures { MatchResult result (λ s. Draws mesh.now s.plex s.keys.items) (λ fault. IsFault mesh.now fault) }
+    ensures { MatchResult result (λ s. Draws mesh.now s.plex s.keys.items s.labels) (λ fault. IsFault mesh.now fault) }
 {
     let points = LocalPoints::of(alloc, &AllCells::new(mesh))?;
     let plex = assemble(alloc, mesh, &points)?;
     let keys = keys_of(alloc, mesh, &points)?;
-    Ok(SerialMesh { plex, keys })
+    let labels = label_points(alloc, mesh, &points)?;
+    Ok(SerialMesh { plex, keys, labels })
 }

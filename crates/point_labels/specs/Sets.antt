@@ -1,10 +1,8 @@
 -- Sets of up to eight vertices.
-use Rattle.std.specs.Prelude.{◌≡◌, ℕ, ℤ, ◌-◌, ◌<◌, ◌≤◌, List, ◌++◌, length, map, replicate}
+use Rattle.std.specs.Prelude.{◌≡◌, ℕ, ◌-◌, ◌<◌, ◌≤◌, List, ◌++◌, length, map, replicate}
 use Rattle.std.specs.List.{AllByRecursion}
-use Rattle.plain_lists.specs.Lists.{below, sorted}
-use Rattle.mesh_defs.specs.Mesh.{Mesh, Cell, placed_cells}
-use Rattle.mesh_defs.specs.Diagram.{chart}
-use Rattle.plex_defs.specs.Labels.{mesh_label}
+use Rattle.plain_lists.specs.Lists.{sorted}
+use Rattle.mesh_defs.specs.Mesh.{Mesh, Cell}
 
 -- what stands behind the vertices of a set of fewer than eight
 abbrev pub no_vertex : ℕ
@@ -25,7 +23,3 @@ pub record IsShort (vertices : List ℕ) : Type 0 where
 -- these are the sets of the cells of a mesh
 pub record IsTableOf (m : Mesh) (sets : List (List ℕ)) : Type 0 where
   pub found : sets ≡ map filled_set m.cells
-
--- the labels of points of dimension 0 to 3, by their places in the chart of all cells
-abbrev pub mesh_labels : Mesh → List (List (ℕ × ℤ))
-mesh_labels m = map (λ dim. mesh_label m dim (chart m (placed_cells m))) (below 4)

@@ -5,7 +5,8 @@ ghost use Rattle.mesh_defs.specs.RightMesh.{IsRightMesh};
 ghost use Rattle.plex_base.specs.Dim.{dim_number};
 ghost use Rattle.plex_defs.specs.Labels.{mesh_label};
 ghost use Rattle.local_points.specs.Points.{local_points};
-ghost use Rattle.point_labels.specs.Sets.{IsTableOf, mesh_labels};
+ghost use Rattle.label_laws.specs.Marks.{mesh_labels};
+ghost use Rattle.point_labels.specs.Sets.{IsTableOf};
 
 use crate::cells::CellTable;
 use crate::places::marked_place;

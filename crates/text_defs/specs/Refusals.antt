@@ -17,7 +17,3 @@ read_refused name = line (codes "refused: read " ++ name)
 -- a file is longer than the limit
 unfoldable pub too_long_refused : List ℕ → List ℕ
 too_long_refused name = line (codes "refused: too long " ++ name ++ codes " 268435457")
-
--- a mesh file is not of the form that is read so far
-unfoldable pub not_yet_refused : List ℕ
-not_yet_refused = line (codes "refused: mesh not yet")

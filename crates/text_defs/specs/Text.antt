@@ -1,8 +1,8 @@
 -- The text of a mesh on its ranks, line by line. A rank's points are numbered from its base, as the global numbering
 -- of a DMPlex is. Labels, fields and further lines are further cases of what stands here.
-use Rattle.std.specs.Prelude.{ℕ, ◌+◌, ◌/◌, ◌==◌, if◌then◌else◌, List, [], ◌∷◌, ◌++◌, length, get_or, sum_by, flat_map, decimal, codes, ℤ}
+use Rattle.std.specs.Prelude.{ℕ, ◌+◌, ◌/◌, ◌==◌, if◌then◌else◌, List, [], ◌∷◌, ◌++◌, length, sum_by, flat_map, decimal, codes, ℤ}
 use Rattle.std.specs.Fmt.{signed_decimal}
-use Rattle.std.specs.List.{list_any, enumerate_from}
+use Rattle.std.specs.List.{list_any}
 use Rattle.mesh_defs.specs.declared.ConeEntry.{ConeEntry}
 use Rattle.mesh_defs.specs.declared.Poly.{Poly}
 use Rattle.mesh_defs.specs.Tables.{dim_of}
@@ -70,14 +70,7 @@ unfoldable pub total_line : ℕ → ℕ → ℕ → ℕ → ℕ → List ℕ
 total_line points cells vertices faces edges = line (codes "total " ++ decimal points ++ codes " cells " ++ decimal cells ++ codes " vertices " ++ decimal vertices
     ++ codes " faces " ++ decimal faces ++ codes " edges " ++ decimal edges)
 
--- a point under its number, in a mesh of this dimension
-unfoldable pub point_line : ℕ → ℕ → Poly → ℕ → List ConeEntry → List ℤ → List ℕ
-point_line dim number poly key cone at = line (codes "P " ++ decimal number ++ codes " " ++ tag dim poly key ++ tail_text poly cone at)
-
 -- ---- the text
-
-unfoldable pub head_text : Mesh → List Rank → List ℕ
-head_text m ranks = mesh_line m.dim (length m.cells) (length m.at) m.unused m.loose m.merged ++ ranks_line (length ranks)
 
 unfoldable pub rank_text : ℕ × Rank → List ℕ
 rank_text r = rank_line r.0 (length r.1.cells) (length r.1.held) (length r.1.owned) r.1.base
@@ -90,20 +83,5 @@ unfoldable pub total_text : Mesh → List Rank → List ℕ
 total_text m ranks =
     total_line (sum_by (λ (r : Rank). length r.owned) ranks) (owned_in m.dim ranks) (owned_in 0 ranks) (if m.dim == 3 then owned_in 2 ranks else 0) (owned_in 1 ranks)
 
--- a point with its number
-unfoldable pub point_text : Mesh → (Point → ℕ) → ℕ × Sight → List ℕ
-point_text m number p = point_line m.dim p.0 p.1.poly p.1.key (cone m number p.1) (get_or m.at p.1.key [])
-
--- the owned points of each rank
-unfoldable pub points_text : Mesh → List Rank → List ℕ
-points_text m ranks = flat_map (λ (r : Rank). flat_map (point_text m (number_of ranks)) (enumerate_from r.base r.owned)) ranks
-
-unfoldable pub plain_step_text : Mesh → ℕ → List Rank → List ℕ
-plain_step_text m place ranks = step_line place ++ flat_map rank_text (enumerate_from 0 ranks) ++ total_text m ranks ++ points_text m ranks
-
 unfoldable pub end_line : List ℕ
 end_line = line (codes "end")
-
--- the text of a mesh on one rank, with the plan of one part and all points shown
-unfoldable pub plain_text : Mesh → List ℕ
-plain_text m = head_text m (alone m ∷ []) ++ plain_step_text m 0 (alone m ∷ []) ++ end_line

@@ -1,21 +1,23 @@
-use Rattle.std.proofs.Common.{◌∙◌, ap, sym}
-use Rattle.input_defs.specs.declared.Status.TheVariants.{Done}
-use Rattle.plex_job.specs.Answer.{verdict_on_content}
-use Rattle.plex_job.proofs.Forms.{content_is, few_nodes, few_elements}
-use Rattle.plex_job.proofs.Plain.{drawn-plain}
+use Rattle.std.proofs.Common.{ap}
+use Rattle.plex_job.specs.Answer.{verdict_on_mesh}
+use Rattle.plex_job.proofs.Meshes.{untwisted, verdict-file, verdict-mesh, verdict-diagram, sayable-diagram}
 use Rattle.plex_job.proofs.top.draw.Goals as goal
 
-pub interpolate-requires-clause-triangles : goal.interpolate-requires-clause-triangles
-interpolate-requires-clause-triangles c = content_is c.args.bytes.now c.in-Ok.text c.in-Ok.ensures.content
+pub returns-in-Err-clause-verdict : goal.returns-in-Err-clause-verdict
+returns-in-Err-clause-verdict c = verdict-file c.args.bytes.now c.in-Err.fault c.refuse_file.result c.in-Err.ensures.err c.refuse_file.ensures.refusal c.refuse_file.ensures.fault
 
-pub interpolate-requires-clause-nodes : goal.interpolate-requires-clause-nodes
-interpolate-requires-clause-nodes c = few_nodes c.args.bytes.now c.in-Ok.text c.in-Ok.ensures.content
+pub returns-in-Err-accept-clause-verdict : goal.returns-in-Err-accept-clause-verdict
+returns-in-Err-accept-clause-verdict c =
+    verdict-mesh c.args.bytes.now c.in-Ok.text c.in-Err-accept.fault c.refuse_mesh.result c.in-Ok.ensures.ok c.in-Err-accept.ensures.err c.refuse_mesh.ensures.refusal c.refuse_mesh.ensures.fault
 
-pub interpolate-requires-clause-elements : goal.interpolate-requires-clause-elements
-interpolate-requires-clause-elements c = few_elements c.args.bytes.now c.in-Ok.text c.in-Ok.ensures.content
+pub returns-in-Ok-interpolate-clause-verdict : goal.returns-in-Ok-interpolate-clause-verdict
+returns-in-Ok-interpolate-clause-verdict c =
+    ap verdict_on_mesh (untwisted c.args.bytes.now c.in-Ok.text c.in-Ok.ensures.ok c.in-Ok-accept.mesh c.in-Ok-accept.ensures.ok c.in-Ok-interpolate.ensures.accepted)
 
-pub returns-in_ok-interpolate-in-Ok : goal.returns-in_ok-interpolate-in-Ok
-returns-in_ok-interpolate-in-Ok c =
-    let is = content_is c.args.bytes.now c.in-Ok.text c.in-Ok.ensures.content in
-    let text = drawn-plain c.in-Ok.text is _ _ _ _ c.in_ok-interpolate-in-Ok.ensures in
-    ap verdict_on_content c.in-Ok.ensures.content ∙ (λ i. (Done, sym text i))
+pub returns-clause-verdict : goal.returns-clause-verdict
+returns-clause-verdict c =
+    verdict-diagram c.args.bytes.now c.in-Ok.text c.in-Ok-accept.mesh c.in-Err-interpolate.fault c.refuse_diagram.result c.in-Ok.ensures.ok c.in-Ok-accept.ensures.ok c.in-Err-interpolate.ensures c.refuse_diagram.ensures
+
+pub returns-clause-sayable : goal.returns-clause-sayable
+returns-clause-sayable c =
+    sayable-diagram c.args.bytes.now c.in-Ok.text c.in-Ok-accept.mesh c.in-Err-interpolate.fault c.refuse_diagram.result c.in-Ok.ensures.ok c.in-Ok-accept.ensures.ok c.in-Err-interpolate.ensures c.refuse_diagram.ensures

@@ -14,12 +14,13 @@ pub invariant_of-result : goal.invariant_of-result
 invariant_of-result c =
     let m = c.args.mesh.now in
     let right = c.new.ensures.right in
-    let drawn : Draws m c.in_ok-plex.plex c.in_ok-keys.keys.items = record {
+    let drawn : Draws m c.in_ok-plex.plex c.in_ok-keys.keys.items c.in_ok-labels.labels = record {
       accepted = c.in_ok-plex.ensures.accepted;
       same_diagram = c.in_ok-plex.ensures.plex ∙ sym (diagram-is m right.sound right.differ);
       same_keys = c.in_ok-keys.ensures ∙ sym (keys-are m right.sound right.differ);
+      same_labels = c.in_ok-labels.ensures;
     } in
-    record { keyed = drawn-keyed m c.in_ok-plex.plex c.in_ok-keys.keys.items drawn }
+    record { keyed = drawn-keyed m c.in_ok-plex.plex c.in_ok-keys.keys.items c.in_ok-labels.labels drawn }
 
 pub returns : goal.returns
 returns c =
@@ -29,4 +30,5 @@ returns c =
       accepted = c.in_ok-plex.ensures.accepted;
       same_diagram = c.in_ok-plex.ensures.plex ∙ sym (diagram-is m right.sound right.differ);
       same_keys = c.in_ok-keys.ensures ∙ sym (keys-are m right.sound right.differ);
+      same_labels = c.in_ok-labels.ensures;
     }

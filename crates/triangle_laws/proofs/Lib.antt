@@ -1,2 +1,0 @@
-pub mod TriangleDiagram
-pub mod TriangleContent

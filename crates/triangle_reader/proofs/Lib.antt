@@ -1,6 +1,0 @@
-pub mod Lines
-pub mod Seen
-pub mod Digits
-pub mod Fronts
-pub mod Facts
-pub mod Whole
