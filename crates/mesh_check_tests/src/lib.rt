@@ -8,3 +8,5 @@ mod files;
 mod meshes;
 #[cfg(test)]
 mod refused;
+#[cfg(test)]
+mod steps;

@@ -1,7 +1,9 @@
 //! `msh_count FILE` prints how many nodes, elements and physical names a mesh file of the working
-//! folder has, and how many rows each of its data sections has.
+//! folder has, and how many rows each of its data sections has. `msh_count FILE mesh` prints after
+//! that how many vertices, cells and label values its mesh has.
 //!
-//! It makes the speed of the reader visible: the whole file is read, and its first fault is found.
+//! It makes the speed of the reader visible, and of what makes the mesh: the whole file is read, and
+//! its first fault is found.
 //! Its exit status is that of [`Trouble`], or 0.
 #![tactic(auto)]
 
@@ -11,7 +13,8 @@ ghost use Rattle.msh_count.specs.Statuses.{counts_text};
 mod counting;
 mod trouble;
 
-use counting::lines;
+use counting::{append_mesh, lines};
+use mesh_check::accept;
 use msh_reader::{MshText, read_msh};
 use plex_base::MAX_FILE_BYTES;
 use shelf_io::{FolderShelf, OutSink, Shelf, Sink};
@@ -29,12 +32,24 @@ fn unread(error: &io::Error) -> Trouble {
     }
 }
 
-/// The only word after the program's name.
-fn file_name<R: Env + AllocGlobal>(rt: &R) -> Result<String, Trouble> {
+/// What is asked for: a file, and whether its mesh is counted too.
+#[derive(Drop)]
+struct Request {
+    name: String,
+    mesh: bool,
+}
+
+/// The words after the program's name: a file's, and then `mesh` or nothing.
+fn asked_for<R: Env + AllocGlobal>(rt: &R) -> Result<Request, Trouble> {
     let mut words = env::args(rt).map_err(|e| unread(&e))?.skip(1);
     let name = words.next().ok_or(Trouble::Words)?;
+    let mesh = match words.next() {
+        None => false,
+        Some(word) if word.as_str() == "mesh" => true,
+        Some(_) => return Err(Trouble::Words),
+    };
     match words.next() {
-        None => Ok(name),
+        None => Ok(Request { name, mesh }),
         Some(_) => Err(Trouble::Words),
     }
 }
@@ -47,9 +62,12 @@ fn read_file<R: Files + AllocGlobal>(rt: &R, name: &str) -> Result<MshText, Trou
 }
 
 fn run<R: Env + Files + Print + AllocGlobal>(rt: &R) -> Result<(), Trouble> {
-    let name = file_name(rt)?;
+    let Request { name, mesh } = asked_for(rt)?;
     let text = read_file(rt, name.as_str())?;
-    let lines = lines(rt.alloc(), &text)?;
+    let mut lines = lines(rt.alloc(), &text)?;
+    if mesh {
+        append_mesh(rt.alloc(), &accept(rt.alloc(), text)?, &mut lines)?;
+    }
     let mut out = OutSink::new(rt);
     out.write(&lines)?;
     out.flush()?;

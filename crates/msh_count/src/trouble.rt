@@ -2,8 +2,9 @@
 
 ghost use Rattle.std.specs.Prelude.{◌≡◌};
 ghost use Rattle.msh_count.specs.declared.trouble.Trouble.TheVariants.{Write, Memory};
-ghost use Rattle.msh_count.specs.Statuses.{status_of, trouble_of, mesh_trouble};
+ghost use Rattle.msh_count.specs.Statuses.{status_of, trouble_of, mesh_trouble, accept_trouble};
 
+use mesh_check::MeshFault;
 use msh_reader::MshFault;
 use shelf_io::{Failed, ShelfFault};
 use std::alloc::{AllocError, AllocFailed};
@@ -11,9 +12,9 @@ use std::alloc::{AllocError, AllocFailed};
 /// Why nothing was counted.
 #[derive(Clone, Copy)]
 pub enum Trouble {
-    /// There is not exactly one word.
+    /// There is not the name of a file, and after it `mesh` or nothing.
     Words,
-    /// The file is no right mesh file.
+    /// The file is no right mesh file, or stands for no mesh.
     Mesh,
     /// The file could not be read, or has more bytes than the limit.
     Read,
@@ -63,6 +64,17 @@ impl From<MshFault> for Trouble {
     fn from(fault: MshFault) -> Trouble {
         match fault {
             MshFault::NoMemory => Trouble::Memory,
+            _ => Trouble::Mesh,
+        }
+    }
+}
+
+impl From<MeshFault> for Trouble {
+    ghost from_gives = { λ fault trouble. trouble ≡ accept_trouble fault };
+
+    fn from(fault: MeshFault) -> Trouble {
+        match fault {
+            MeshFault::NoMemory => Trouble::Memory,
             _ => Trouble::Mesh,
         }
     }
