@@ -95,26 +95,34 @@ fn vertices_by_number(rt: HostRuntime) -> Result<(), Fail> {
 }
 
 #[test]
-fn rows_of_data(rt: HostRuntime) -> Result<(), Fail> {
+fn rows_of_nodes(rt: HostRuntime) -> Result<(), Fail> {
+    let text = content(rt.alloc())?;
+    let places = ElementPlaces::of(rt.alloc(), &text)?;
+    let vertices = Vertices::of(rt.alloc(), places.text(), places.greatest_dim())?;
+    let numbers = element_numbers(rt.alloc(), places.text())?;
+    assert_eq!(rt; places.text().fields(), 2);
+    let (on, field) = places.text().field(0);
+    let field = field_on_mesh(rt.alloc(), &places, &vertices, &numbers, on, field)?;
+    assert_eq!(rt; field.rows(), 2);
+    let (number, values) = field.row(1);
+    assert_eq!(rt; number, 0);
+    assert_eq!(rt; values, [30_000_000_000].as_slice());
+    Ok(())
+}
+
+#[test]
+fn rows_of_elements(rt: HostRuntime) -> Result<(), Fail> {
     let text = content(rt.alloc())?;
     let places = ElementPlaces::of(rt.alloc(), &text)?;
     let vertices = Vertices::of(rt.alloc(), places.text(), places.greatest_dim())?;
     assert!(rt; needs_element_numbers(places.text()));
     let numbers = element_numbers(rt.alloc(), places.text())?;
-    for (i, rows) in [(0, [(3, 2), (0, 3)].as_slice()), (1, [(1, 4)].as_slice())] {
-        if i >= places.text().fields() {
-            return Err(Fail::from("a data section is missing"));
-        }
-        let (on, field) = places.text().field(i);
-        let field = field_on_mesh(rt.alloc(), &places, &vertices, &numbers, on, field)?;
-        assert_eq!(rt; field.rows(), rows.len());
-        for (k, (place, value)) in rows.iter().enumerate() {
-            if k < field.rows() {
-                let (number, values) = field.row(k);
-                assert_eq!(rt; number, *place);
-                assert_eq!(rt; values, [*value * 10_000_000_000].as_slice());
-            }
-        }
-    }
+    assert_eq!(rt; places.text().fields(), 2);
+    let (on, field) = places.text().field(1);
+    let field = field_on_mesh(rt.alloc(), &places, &vertices, &numbers, on, field)?;
+    assert_eq!(rt; field.rows(), 1);
+    let (number, values) = field.row(0);
+    assert_eq!(rt; number, 1);
+    assert_eq!(rt; values, [40_000_000_000].as_slice());
     Ok(())
 }
