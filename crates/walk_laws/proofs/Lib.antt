@@ -1,0 +1,5 @@
+pub mod Images
+pub mod Facets
+pub mod Closures
+pub mod Reaching
+pub mod Stars
