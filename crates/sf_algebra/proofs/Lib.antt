@@ -1,0 +1,5 @@
+mod Steps
+mod Fitting
+mod Pieces
+mod Searching
+mod Noting
