@@ -1,8 +1,10 @@
 //! Lists of lists.
-ghost use Rattle.std.specs.Prelude.{◌≡◌, ◌+◌, ◌<◌, [], length, get_or};
+ghost use Rattle.std.specs.Prelude.{◌≡◌, ◌+◌, ◌<◌, [], length, get_or, IfOk};
 ghost use Rattle.plain_lists.specs.Vectors.{lists_of};
 ghost use Rattle.sf_fabric.specs.Cut.{cut, part, AreCuts};
 
+use plex_base::NoMemory;
+use std::alloc::Global;
 use std::marker::Model;
 
 /// Lists of `T`: either a vector for each, or all in one vector, one after another.
@@ -73,6 +75,33 @@ impl<T> Lists<T> {
             Stored::Flat(items, firsts) => part(items, firsts, k),
         }
     }
+}
+
+impl<T: Copy> Lists<T> {
+    /// The same lists again.
+    pub fn try_clone(&self, alloc: Global) -> Result<Lists<T>, NoMemory>
+        ensures { IfOk result (λ lists. lists ≡ self.now) }
+    {
+        match &self.stored {
+            Stored::Nested(lists) => Ok(Lists::nested(copies(alloc, lists)?)),
+            Stored::Flat(items, firsts) => {
+                let items = Vec::from_slice(alloc, items)?;
+                let firsts = Vec::from_slice(alloc, firsts)?;
+                Ok(Lists::flat(items, firsts))
+            }
+        }
+    }
+}
+
+/// Each list again.
+fn copies<T: Copy>(alloc: Global, lists: &[Vec<T>]) -> Result<Vec<Vec<T>>, NoMemory>
+    ensures { IfOk result (λ copies. lists_of copies.items ≡ lists_of lists.now) }
+{
+    let mut copies = Vec::with_capacity(alloc, lists.len())?;
+    for list in lists {
+        copies.push(Vec::from_slice(alloc, list)?)?;
+    }
+    Ok(copies)
 }
 
 /// The items from one place to the next.

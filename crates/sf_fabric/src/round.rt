@@ -1,10 +1,12 @@
 //! One round.
-ghost use Rattle.std.specs.Prelude.{◌≡◌, ◌<◌, ◌↔◌, [], length, get_or, IsTrue};
+ghost use Rattle.std.specs.Prelude.{◌≡◌, ◌<◌, ◌↔◌, [], length, get_or, IfOk, IsTrue};
 ghost use Rattle.plain_lists.specs.Vectors.{lists_of};
 ghost use Rattle.sf_fabric.specs.Complete.{IsComplete};
 
 use crate::lists::Lists;
+use plex_base::NoMemory;
 use sf_defs::{Ask, Tag, Turn};
+use std::alloc::Global;
 use std::marker::Model;
 
 /// What was asked of words in a round, what each ask fetched, what the words are afterwards, and in
@@ -85,6 +87,20 @@ impl Round {
         self.got.len() == self.asks.len()
             && self.after.len() == self.before.len()
             && self.order.len() == self.before.len()
+    }
+
+    /// The same round again.
+    pub fn try_clone(&self, alloc: Global) -> Result<Round, NoMemory>
+        ensures { IfOk result (λ r. r ≡ self.now) }
+    {
+        Ok(Round {
+            tag: self.tag,
+            before: Vec::from_slice(alloc, &self.before)?,
+            asks: self.asks.try_clone(alloc)?,
+            got: self.got.try_clone(alloc)?,
+            after: Vec::from_slice(alloc, &self.after)?,
+            order: self.order.try_clone(alloc)?,
+        })
     }
 
     /// What the round is for.

@@ -2,6 +2,8 @@
 #![tactic(auto)]
 
 #[cfg(test)]
+mod fetching;
+#[cfg(test)]
 mod forests;
 #[cfg(test)]
 mod legality;

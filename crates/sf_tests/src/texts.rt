@@ -23,12 +23,12 @@ fn op_of(byte: u8) -> Op {
     }
 }
 
-/// Asks of a letter for the operation, a digit for the word and a digit for the value, with one blank
-/// after each: `s05 l10 `.
+/// Asks of a letter for the operation, a digit for the word and a digit for the value, with blanks
+/// between them: `s05 l10`.
 pub(crate) fn asks_of(alloc: Global, text: &str) -> Result<Vec<Ask>, AllocError> {
     let mut asks = Vec::new(alloc);
-    for token in text.as_bytes().chunks_exact(4) {
-        if let [op, word, value, _] = token {
+    for token in text.split(' ') {
+        if let [op, word, value] = token.as_bytes() {
             asks.push(Ask {
                 word: (value_of(*word) & 15) as u32,
                 op: op_of(*op),
@@ -39,20 +39,22 @@ pub(crate) fn asks_of(alloc: Global, text: &str) -> Result<Vec<Ask>, AllocError>
     Ok(asks)
 }
 
-/// One value for each byte.
+/// One value for each byte that is no blank.
 pub(crate) fn values_of(alloc: Global, text: &str) -> Result<Vec<u64>, AllocError> {
     let mut values = Vec::new(alloc);
     for byte in text.as_bytes() {
-        values.push(value_of(*byte))?;
+        if *byte != b' ' {
+            values.push(value_of(*byte))?;
+        }
     }
     Ok(values)
 }
 
-/// Turns of a digit for the rank and a digit for the place, with one blank after each: `10 00 `.
+/// Turns of a digit for the rank and a digit for the place, with blanks between them: `10 00`.
 pub(crate) fn turns_of(alloc: Global, text: &str) -> Result<Vec<Turn>, AllocError> {
     let mut turns = Vec::new(alloc);
-    for token in text.as_bytes().chunks_exact(3) {
-        if let [rank, index, _] = token {
+    for token in text.split(' ') {
+        if let [rank, index] = token.as_bytes() {
             turns.push(Turn {
                 rank: (value_of(*rank) & 15) as u32,
                 index: (value_of(*index) & 15) as u32,

@@ -1,4 +1,4 @@
-use Rattle.std.proofs.Common.{◌≡◌, ℕ, [], ◌∷◌, List, refl, sym, ap, subst, ◌∙◌}
+use Rattle.std.proofs.Common.{ℕ, [], ◌∷◌, List, refl, sym, ap, subst, ◌∙◌}
 use Rattle.plain_lists.specs.Vectors.{lists_of}
 use Rattle.sf_defs.specs.declared.Op.TheVariants.{Sum}
 use Rattle.sf_defs.specs.declared.Ask.{Ask}

@@ -1,0 +1,4 @@
+pub mod Done
+pub mod Parts
+pub mod Found
+pub mod Legal

@@ -1,0 +1,4 @@
+pub mod Playing
+pub mod Seats
+pub mod Moves
+pub mod Ending
