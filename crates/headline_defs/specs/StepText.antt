@@ -35,7 +35,7 @@ unfoldable pub ranks_with : Mesh → ℕ → List ℕ → ℕ → List ℕ → L
 ranks_with m n ranks layers bases = map (λ r. record { cells = assigned m ranks r; held = held m ranks r layers; owned = owned m ranks r; base = get_or bases r 0 }) (below n)
 
 -- a round that is not there
-abbrev no_round : Round
+abbrev pub no_round : Round
 no_round = record { tag = Free; before = []; asks = []; got = []; after = []; order = [] }
 
 -- the number round of the latest part: the home round is kept first, and then a number round with each part
@@ -108,7 +108,7 @@ sums_text m dofs all =
 
 -- ---- a step, and the text
 
-abbrev where_shown : Bool → List ℕ → List ℕ
+abbrev pub where_shown : Bool → List ℕ → List ℕ
 where_shown shown text = if shown then text else []
 
 -- all lines of a step but the first, by the home round and the number round of the latest part

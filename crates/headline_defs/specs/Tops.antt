@@ -67,3 +67,19 @@ pub record IsReplay (c : Call) : Type 0 where
   pub headline : Headline (replay_asking c.words) c
   pub no_rounds : c.kept_before ≡ []
   pub by_picks : AreByPicks (picks_in c.words) (fitting_given (replay_asking c.words) headline.files) headline.added
+
+-- ---- by picks, as long as some lines of plans are not built
+
+abbrev pub asking_built_where : Option (List ℕ) → List (List ℕ) → Asking
+asking_built_where None words = asking_where None words
+asking_built_where (Some picks) words = asking_built words
+
+-- what the words of a replay ask
+unfoldable pub replay_asking_built : List (List ℕ) → Asking
+replay_asking_built words = asking_built_where (picks_in words) (after_picks words)
+
+-- a replay starts with no kept rounds, and its rounds go by its picks
+pub record IsReplayBuilt (c : Call) : Type 0 where
+  pub headline : Headline (replay_asking_built c.words) c
+  pub no_rounds : c.kept_before ≡ []
+  pub by_picks : AreByPicks (picks_in c.words) (fitting_given (replay_asking_built c.words) headline.files) headline.added

@@ -39,7 +39,7 @@ known-drawn parts (s ∷ steps) = go (nat_lt parts s.parts) refl (known-drawn pa
     go false h r = (ltb-false parts s.parts h, r)
 
 -- steps up to some part have the same text by all rounds as by the first ones
-same_texts : (x : Subject) (rounds : List Round) (n parts : ℕ) (steps : List State) → parts + 1 ≤ n → AllByRecursion (λ (s : State). s.parts ≤ parts) steps → flat_map (step_text x (take n rounds)) steps ≡ flat_map (step_text x rounds) steps
+pub same_texts : (x : Subject) (rounds : List Round) (n parts : ℕ) (steps : List State) → parts + 1 ≤ n → AllByRecursion (λ (s : State). s.parts ≤ parts) steps → flat_map (step_text x (take n rounds)) steps ≡ flat_map (step_text x rounds) steps
 same_texts x rounds n parts [] h drawn = refl
 same_texts x rounds n parts (s ∷ steps) h drawn =
     let within : s.parts + 1 ≤ n = omega (arith, drawn.0) in

@@ -109,7 +109,7 @@ cone-numbers m n a layers bases s sound accepted parts there =
 -- ---- printed numbers
 
 -- a part of a list of different points has different points
-differ-filter : (q : Sight → Bool) (ss : List Sight) → points_differ ss ≡ true → points_differ (filter q ss) ≡ true
+pub differ-filter : (q : Sight → Bool) (ss : List Sight) → points_differ ss ≡ true → points_differ (filter q ss) ≡ true
 differ-filter q [] h = refl
 differ-filter q (s ∷ ss) h = go (q s) (differ-filter q ss both.1)
   where

@@ -4,3 +4,4 @@ pub mod Numbers
 pub mod Plain
 pub mod Charted
 pub mod Cones
+pub mod Course

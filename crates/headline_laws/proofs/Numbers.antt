@@ -173,7 +173,7 @@ module _ (m : Mesh) (n : ℕ) (ranks : List ℕ) (layers : ℕ) (r : Round) (is 
   last-is = legal-last r is.legal 0 one-word ∙ (λ i. word_after (from-zero i) (on-the-word i)) ∙ word-after-sums size (below n) 0 (omega (arith, fits)) ∙ omega arith
 
   -- each rank fetched its base
-  bases-count : length (bases_of r) ≡ n
+  pub bases-count : length (bases_of r) ≡ n
   bases-count = omega (arith, length-map r.got (λ got. slice_index got 0), ap length is.legal.fetched, length-map r.got (length {A = ℕ}), length-map r.asks (length {A = Ask}), ap length asks-are, length-map (below n) (λ k. sum_ask (size k) ∷ []), length-below n)
 
   -- k is printed as often as it was taken

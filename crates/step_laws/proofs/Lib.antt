@@ -1,0 +1,16 @@
+pub mod Chosen
+pub mod Labels
+pub mod Local
+pub mod Tails
+pub mod Numbers
+pub mod Roots
+pub mod Owned
+pub mod Points
+pub mod Traces
+pub mod Counts
+pub mod Sums
+pub mod Moved
+pub mod Closures
+pub mod Assigned
+pub mod Fits
+pub mod Step
