@@ -41,7 +41,7 @@ lines_ahead : map first_ahead
     ∷ codes "ranks 1\npart block\nshow trace\n"
     ∷ codes "show windows\nranks 64\npart block\n"
     ∷ [])
-    ≡ None ∷ Some 1 ∷ Some 5 ∷ Some 1 ∷ Some 4 ∷ Some 3 ∷ Some 3 ∷ Some 1 ∷ []
+    ≡ None ∷ Some 1 ∷ Some 5 ∷ None ∷ None ∷ None ∷ None ∷ Some 2 ∷ []
 unfolding lines_of tokens_of form_of first_ahead
 lines_ahead = refl
 
@@ -63,7 +63,7 @@ order_with_ahead : (built_by (codes "--plan" ∷ codes "p" ∷ []) [] ≡ refuse
     × (built_by with_plan ((codes "p", codes "ranks 2\npart 5\n") ∷ []) ≡ refused status.ReadFault (codes "read m"))
     × (built_by with_plan ((codes "p", codes "ranks 2\nparts\n") ∷ (codes "m", []) ∷ []) ≡ refused status.Plan (codes "plan line 2 word"))
     × (built_by with_plan ((codes "p", codes "ranks 2\npart 5\n") ∷ (codes "m", []) ∷ []) ≡ refused status.Plan (codes "plan line 1 not yet"))
-    × (built_by with_plan ((codes "p", codes "ranks 1\npart 0\nshow trace\n") ∷ (codes "m", two_triangles) ∷ []) ≡ refused status.Plan (codes "plan line 3 not yet"))
+    × (built_by with_plan ((codes "p", codes "ranks 1\npart 0\noverlap 1\n") ∷ (codes "m", two_triangles) ∷ []) ≡ refused status.Plan (codes "plan line 3 not yet"))
     × (built_by with_plan ((codes "p", codes "ranks 1\npart 0\n") ∷ (codes "m", two_triangles) ∷ []) ≡ refused status.Plan (codes "plan line 2 part length 1 want 2"))
     × (built_by with_plan ((codes "p", codes "ranks 1\npart 0 0\n") ∷ (codes "m", two_triangles) ∷ []) ≡ None)
     × (built_by (codes "m" ∷ []) ((codes "m", two_triangles) ∷ []) ≡ None)

@@ -1,5 +1,5 @@
 -- The lines of a plan that are read and not built yet. This file stands here until all of them are.
-use Rattle.std.specs.Prelude.{ℕ, ◌+◌, Bool, true, false, not, ◌&&◌, ◌||◌, nat_le, if◌then◌else◌, List, [], ◌∷◌, Option, Some, None, option_map, Result}
+use Rattle.std.specs.Prelude.{ℕ, ◌+◌, Bool, true, false, not, ◌&&◌, nat_le, if◌then◌else◌, List, [], ◌∷◌, Option, Some, None, option_map, Result}
 use Rattle.line_defs.specs.Rows.{lines_of, tokens_of}
 use Rattle.input_defs.specs.declared.PlanFault.{PlanFault}
 use Rattle.input_defs.specs.declared.PlanFault.TheVariants.{NotYet}
@@ -7,13 +7,13 @@ use Rattle.input_defs.specs.Causes.{◌>>=◌, unless}
 use Rattle.input_defs.specs.Plans.{Part, Layers, Form, IsRanks, IsMove, IsDofs, IsShow, form_of, is_comment, Plan, plan_of}
 use Rattle.input_defs.specs.Refused.{Task, Refusal, task_by}
 
--- Lines of these forms are not built: more ranks than one, layers of overlap, `dofs`, and all that is shown but points.
+-- Lines of these forms are not built: more ranks than one, and layers of overlap.
 abbrev pub is_ahead : Form → Bool
 is_ahead (IsRanks n) = nat_le 2 n
 is_ahead (IsMove (Part spread)) = false
 is_ahead (IsMove (Layers k)) = true
-is_ahead (IsDofs d) = true
-is_ahead (IsShow s) = s.local || s.closure || s.trace || s.windows
+is_ahead (IsDofs d) = false
+is_ahead (IsShow s) = false
 
 abbrev pub form_is_ahead : Option Form → Bool
 form_is_ahead None = false

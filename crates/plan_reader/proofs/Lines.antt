@@ -26,11 +26,11 @@ parts_is test [] = refl
 parts_is test (b ∷ bs) = rw (parts_is test bs, onto_first_is b (slice_split test bs)) refl
 
 -- the first part ends at the first byte that passes
-parts_first : (test : ℕ → Bool) (bs : List ℕ) → position_or_len test bs < length bs → parts test bs ≡ take (position_or_len test bs) bs ∷ parts test (drop (position_or_len test bs + 1) bs)
+pub parts_first : (test : ℕ → Bool) (bs : List ℕ) → position_or_len test bs < length bs → parts test bs ≡ take (position_or_len test bs) bs ∷ parts test (drop (position_or_len test bs + 1) bs)
 parts_first test bs lt = rw (parts_is test bs, parts_is test (drop (position_or_len test bs + 1) bs)) (slice_split_first test bs 0 lt)
 
 -- where no byte passes, all is one part
-parts_none : (test : ℕ → Bool) (bs : List ℕ) → length bs ≤ position_or_len test bs → parts test bs ≡ bs ∷ []
+pub parts_none : (test : ℕ → Bool) (bs : List ℕ) → length bs ≤ position_or_len test bs → parts test bs ≡ bs ∷ []
 parts_none test bs le = rw (parts_is test bs) (slice_split_none test bs (λ k d lt. fails_before_first test bs k d (omega arith)))
 
 -- ---- tokens

@@ -1,17 +1,19 @@
 -- What a line makes of what was read before.
-use Rattle.std.proofs.Common.{◌≡◌, ◌≢◌, get_or, ℕ, ◌≤◌, Bool, true, false, not, ◌||◌, List, [], ◌∷◌, ◌++◌, length, Option, Some, None, Ok, Err, refl, sym, ◌∙◌, arith}
+use Rattle.std.proofs.Common.{◌≡◌, ◌≢◌, get_or, ℕ, ◌<◌, ◌≤◌, map, subst, length-append, Bool, true, false, not, ◌||◌, List, [], ◌∷◌, ◌++◌, length, Option, Some, None, Ok, Err, refl, sym, ◌∙◌, arith}
 use Rattle.std.specs.Prelude.{Result, MatchResult, IsErrAnd, nat_le, nat_lt, ◌==◌}
-use Rattle.std.specs.List.{list_all, list_any}
-use Rattle.std.proofs.lemmas.Bool.{le-leb, lt-ltb, ne_eqb}
+use Rattle.std.specs.List.{list_all, list_any, AllByRecursion}
+use Rattle.std.proofs.lemmas.Bool.{le-leb, lt-ltb, ne_eqb, or_parts, leb-false, ltb-false}
 use Rattle.std.proofs.lemmas.List.{length-map}
 use Rattle.plain_lists.specs.Lists.{same_list}
+use Rattle.plain_lists.proofs.Each.{all_append}
 use Rattle.plain_lists.proofs.Finding.{any_map}
+use Rattle.plex_defs.specs.Fields.{AreRightDofs}
 use Rattle.input_defs.specs.declared.PlanFault.TheVariants.{Dofs, Word}
 use Rattle.input_defs.specs.Plans as plans
 use Rattle.input_defs.specs.Plans.{Before, IsDofs, Move, is_part, form_of, with_form, with_line, plan_with, is_field_name, is_letter}
 use Rattle.input_defs.specs.declared.Show.{Show}
 use Rattle.plan_reader.specs.declared.moves.MoveLine.{MoveLine}
-use Rattle.plan_reader.specs.Drafts.{Drafted, drafted}
+use Rattle.plan_reader.specs.Drafts.{Drafted, drafted, counts_of}
 use Rattle.plan_reader.specs.declared.moves.DofsLine.{DofsLine}
 use Rattle.plan_reader.specs.Reading.{dofs_view, dofs_views, move_views}
 
@@ -70,3 +72,24 @@ mapped (Err d) s P x m e = absurd (not_ok x (P d) (rw e at m))
 pub no_form : (b : Before) (line : ℕ) (text : List (List ℕ)) (word : List ℕ) (tokens : List (List ℕ)) → text ≡ word ∷ tokens → get_or word 0 0 ≢ 35 → form_of word tokens ≡ None → with_line b line text ≡ Err (Word line)
 unfolding with_form
 no_form b line text word tokens e said none = rw (e, ne_eqb (get_or word 0 0) 35 said, none) refl
+
+-- ---- the words of sections
+
+-- no count is too large
+small-counts : (ns : List ℕ) → list_any (λ n. nat_lt 16 n) ns ≡ false → AllByRecursion (λ n. n ≤ 16) ns
+small-counts [] h = tt
+small-counts (n ∷ ns) h = let parts = or_parts (nat_lt 16 n) (list_any (λ n. nat_lt 16 n) ns) h in (ltb-false 16 n parts.0, small-counts ns parts.1)
+
+-- a section that can be added leaves sections and words few
+pub counts-right : (b : Before) (name dofs : List ℕ) (sections : List DofsLine) → b.dofs ≡ dofs_views sections → length dofs ≡ 4 → is_wrong sections name dofs ≡ false
+    → AreRightDofs (counts_of (dofs_views sections)) → AreRightDofs (counts_of b.dofs ++ dofs ∷ [])
+counts-right b name dofs sections e four right old =
+    let last = or_parts _ (nat_le 8 (length sections)) right in
+    let middle = or_parts _ (list_any (λ n. nat_lt 16 n) dofs) last.0 in
+    let many : length (counts_of (dofs_views sections)) ≡ length sections = length-map (dofs_views sections) (λ (d : plans.DofsLine). d.dofs) ∙ length-map sections dofs_view in
+    let few : length sections < 8 = leb-false 8 (length sections) last.1 in
+    subst (λ (ds : List plans.DofsLine). AreRightDofs (counts_of ds ++ dofs ∷ [])) (sym e) (record {
+      few_lines = omega (arith, many, length-append (counts_of (dofs_views sections)) (dofs ∷ []));
+      four_counts = all_append (λ (counts : List ℕ). length counts ≡ 4) (counts_of (dofs_views sections)) (dofs ∷ []) old.four_counts (four, tt);
+      small_counts = all_append (AllByRecursion (λ n. n ≤ 16)) (counts_of (dofs_views sections)) (dofs ∷ []) old.small_counts (small-counts dofs middle.1, tt);
+    })

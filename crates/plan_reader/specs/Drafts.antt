@@ -1,8 +1,10 @@
 -- What was read of a plan up to a line, and a plan, as they are kept.
-use Rattle.std.specs.Prelude.{◌≡◌, ℕ, ◌^◌, ◌<◌, ◌≤◌, Bool, if◌then◌else◌, List, Option, Some, None, option_and_then, slice_get, nat_lt, length}
+use Rattle.std.specs.Prelude.{◌≡◌, ℕ, ◌^◌, ◌<◌, ◌≤◌, Bool, if◌then◌else◌, List, Option, Some, None, option_and_then, slice_get, nat_lt, length, map}
 use Rattle.std.specs.List.{list_any}
 use Rattle.std.specs.Option.{ForSome}
 use Rattle.input_defs.specs.declared.Show.{Show}
+use Rattle.plex_defs.specs.Fields.{AreRightDofs}
+use Rattle.input_defs.specs.Plans as lines
 use Rattle.input_defs.specs.Plans.{Before, Form, IsMove, Layers, Move, Part, Plan, Spread, layers_of, is_part}
 use Rattle.plan_reader.specs.declared.moves.MoveLine.{MoveLine}
 use Rattle.plan_reader.specs.declared.moves.DofsLine.{DofsLine}
@@ -16,13 +18,18 @@ pub record Drafted : Type 0 where
 abbrev pub drafted : Option ℕ → List MoveLine → List DofsLine → Show → Option ℕ → Drafted
 drafted ranks moves dofs shows ahead = record { before = record { ranks = ranks; moves = move_views moves; dofs = dofs_views dofs; shows = shows }; ahead = ahead }
 
--- the layers are counted, a part stands before them, and the ranks are in range
-pub record IsDraft (ranks : Option ℕ) (layers : ℕ) (moves : List (ℕ × Move)) : Type 0 where
+-- how many words each section has by dimension
+abbrev pub counts_of : List lines.DofsLine → List (List ℕ)
+counts_of sections = map (λ (d : lines.DofsLine). d.dofs) sections
+
+-- the layers are counted, a part stands before them, the ranks are in range, and sections and their words are few
+pub record IsDraft (ranks : Option ℕ) (layers : ℕ) (moves : List (ℕ × Move)) (sections : List lines.DofsLine) : Type 0 where
   pub layers_is : layers ≡ layers_of moves
   pub few : layers ≤ 4
   pub parts : list_any (λ (m : ℕ × Move). is_part m.1) moves ≡ nat_lt 0 (length moves)
   pub some_ranks : ForSome ranks (λ n. 1 ≤ n)
   pub few_ranks : ForSome ranks (λ n. n ≤ 64)
+  pub few_words : AreRightDofs (counts_of sections)
 
 -- a number of layers as a line can tell it
 abbrev pub HasFewLayers : Form → Type 0

@@ -8,7 +8,8 @@ ghost use Rattle.input_defs.specs.Causes.{map_ok};
 ghost use Rattle.input_defs.specs.Plans.{IsRanks, IsMove, IsDofs, Part, Layers, before_any_line, with_form, with_line, plan_with, is_field_name, is_letter, both};
 ghost use Rattle.plan_reader.specs.Reading.{Gives, ok_as, form_view, spread_view};
 ghost use Rattle.input_defs.specs.Ahead.{line_is_ahead};
-ghost use Rattle.plan_reader.specs.Drafts.{ahead_with, HasFewLayers};
+ghost use Rattle.plex_defs.specs.Fields.{AreRightDofs};
+ghost use Rattle.plan_reader.specs.Drafts.{ahead_with, counts_of, HasFewLayers};
 
 use crate::forms::{Form, read_form};
 use crate::moves::{DofsLine, Move, MoveLine, Spread};
@@ -37,13 +38,13 @@ pub(crate) struct Draft {
 
 impl Model for Draft {
     ghost use Rattle.plan_reader.specs.Drafts.{Drafted, drafted, IsDraft};
-    ghost use Rattle.plan_reader.specs.Reading.{move_views};
+    ghost use Rattle.plan_reader.specs.Reading.{move_views, dofs_views};
 
     ghost Value = { Drafted };
 
     ghost view = { λ d. drafted d.ranks d.moves.items d.dofs.items d.shows d.ahead };
 
-    ghost invariant = { λ d. IsDraft d.ranks d.layers (move_views d.moves.items) };
+    ghost invariant = { λ d. IsDraft d.ranks d.layers (move_views d.moves.items) (dofs_views d.dofs.items) };
 }
 
 /// What two lines show.
@@ -184,8 +185,9 @@ impl Draft {
         Ok(())
     }
 
-    /// Adds a section.
+    /// Adds a section, where no more than eight have no more than 16 words each.
     fn add_dofs(&mut self, alloc: Global, name: &[u8], dofs: [u32; 4]) -> Result<(), PlanFault>
+        requires { AreRightDofs (counts_of self.old.before.dofs ++ dofs ∷ []) }
         ensures before { Gives (ok_as self.new.before result) (Ok (record self.old.before { dofs = self.old.before.dofs ++ record { name = name.now; dofs = dofs } ∷ [] })) }
         ensures ahead { self.new.ahead ≡ self.old.ahead }
     {

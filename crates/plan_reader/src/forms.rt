@@ -131,10 +131,8 @@ impl Form<'_> {
     {
         match self {
             Form::Ranks(n) => *n >= 2,
-            Form::Move(Move::Part(_)) => false,
             Form::Move(Move::Layers(_)) => true,
-            Form::Dofs(..) => true,
-            Form::Show(show) => show.local || show.closure || show.trace || show.windows,
+            Form::Move(Move::Part(_)) | Form::Dofs(..) | Form::Show(_) => false,
         }
     }
 }

@@ -4,7 +4,8 @@ ghost use Rattle.std.specs.Prelude.{◌≡◌, ◌<◌, ◌≤◌, length, None,
 ghost use Rattle.std.specs.List.{slice_get};
 ghost use Rattle.input_defs.specs.Causes.{unless};
 ghost use Rattle.input_defs.specs.Plans.{misfit, plain_plan, rank_by, step_of};
-ghost use Rattle.plan_reader.specs.Drafts.{spread_at};
+ghost use Rattle.plex_defs.specs.Fields.{AreRightDofs};
+ghost use Rattle.plan_reader.specs.Drafts.{counts_of, spread_at};
 
 use crate::fits::first_misfit;
 use crate::moves::{DofsLine, Move, MoveLine, Spread};
@@ -27,13 +28,15 @@ pub struct Plan {
 
 impl Model for Plan {
     ghost use Rattle.std.specs.Prelude.{◌≤◌};
-    ghost use Rattle.plan_reader.specs.Drafts.{PlanText, plan_text};
+    ghost use Rattle.plex_defs.specs.Fields.{AreRightDofs};
+    ghost use Rattle.plan_reader.specs.Drafts.{PlanText, counts_of, plan_text};
+    ghost use Rattle.plan_reader.specs.Reading.{dofs_views};
 
     ghost Value = { PlanText };
 
     ghost view = { λ p. plan_text p.ranks p.moves.items p.dofs.items p.shows p.ahead };
 
-    ghost invariant = { λ p. (1 ≤ p.ranks) × (p.ranks ≤ 64) };
+    ghost invariant = { λ p. (1 ≤ p.ranks) × (p.ranks ≤ 64) × AreRightDofs (counts_of (dofs_views p.dofs.items)) };
 }
 
 impl Plan {
@@ -105,9 +108,12 @@ impl Plan {
         self.shows
     }
 
-    /// How many sections there are.
+    /// How many sections there are, at most eight.
     pub fn dofs(&self) -> usize
-        ensures { result ≡ length self.now.plan.dofs }
+        ensures count { result ≡ length self.now.plan.dofs }
+
+        // What the sections of every plan are.
+        ensures right { AreRightDofs (counts_of self.now.plan.dofs) }
     {
         self.dofs.len()
     }

@@ -62,8 +62,8 @@ fn lines_that_are_not_built_yet(rt: HostRuntime) -> Result<(), Fail> {
         ("ranks 1\npart block\npart stripe\nshow points\n", None),
         ("ranks 2\npart block\noverlap 1\n", Some(1)),
         ("ranks 1\npart block\n\noverlap 0\nshow local\n", Some(4)),
-        ("dofs u 0 0 0 0\nranks 1\npart block\n", Some(1)),
-        ("ranks 1\nshow points\nshow windows\npart block\n", Some(3)),
+        ("dofs u 0 0 0 0\nranks 1\npart block\n", None),
+        ("ranks 1\nshow points\nshow windows\npart block\n", None),
     ] {
         assert_eq!(rt; plan_of(rt.alloc(), text)?.ahead(), ahead, "{text:?}");
     }
