@@ -1,4 +1,5 @@
-ghost use Rattle.std.specs.Prelude.{MatchResult};
+ghost use Rattle.std.specs.Prelude.{IfOk, MatchResult};
+ghost use Rattle.plex_serial.specs.Cones.{AreOf};
 ghost use Rattle.plex_serial.specs.Keys.{Draws, IsFault};
 
 use crate::assembly::assemble;
@@ -16,11 +17,17 @@ use std::alloc::Global;
 ///
 /// A mesh with a twisted face is refused, with the least key of such a face.
 pub fn interpolate(alloc: Global, mesh: &Mesh) -> Result<SerialMesh, SerialFault>
-    ensures { MatchResult result (λ s. Draws mesh.now s.plex s.keys.items s.labels) (λ fault. IsFault mesh.now fault) }
+    ensures drawn { MatchResult result (λ s. Draws mesh.now s.plex s.keys.items s.labels) (λ fault. IsFault mesh.now fault) }
+    ensures points { IfOk result (λ s. AreOf mesh.now s.points) }
 {
     let points = LocalPoints::of(alloc, &AllCells::new(mesh))?;
     let plex = assemble(alloc, mesh, &points)?;
     let keys = keys_of(alloc, mesh, &points)?;
     let labels = label_points(alloc, mesh, &points)?;
-    Ok(SerialMesh { plex, keys, labels })
+    Ok(SerialMesh {
+        plex,
+        keys,
+        labels,
+        points,
+    })
 }

@@ -22,8 +22,8 @@ invariant_of-result c =
     } in
     record { keyed = drawn-keyed m c.in_ok-plex.plex c.in_ok-keys.keys.items c.in_ok-labels.labels drawn }
 
-pub returns : goal.returns
-returns c =
+pub returns-clause-drawn : goal.returns-clause-drawn
+returns-clause-drawn c =
     let m = c.args.mesh.now in
     let right = c.new.ensures.right in
     record {

@@ -1,0 +1,12 @@
+pub mod Once
+pub mod Apart
+pub mod CellRows
+pub mod CellPoints
+pub mod Adding
+pub mod LastRows
+pub mod SignedWords
+pub mod Rowing
+pub mod Building
+pub mod Worded
+pub mod Alone
+pub mod Traces

@@ -1,0 +1,5 @@
+pub mod OneRank
+pub mod Weights
+pub mod Rows
+pub mod Multiples
+pub mod Own
