@@ -1,29 +1,18 @@
 -- Words, piece by piece and one after the other.
-use Rattle.std.proofs.Common.{◌≡◌, ◌≢◌, ℕ, ◌+◌, ◌-◌, ◌<◌, ◌≤◌, Bool, true, false, not, cond, ltb, leb, List, [], ◌∷◌, ◌++◌, length, map, get_or, take, drop, Option, Some, None, Ok, Err, refl, sym, ap, ◌∙◌, inl, inr, arith}
-use Rattle.std.specs.Prelude.{Result, ◌==◌, option_map, option_and_then, if◌then◌else◌, is_some, string_bytes, String, MatchOption}
-use Rattle.std.specs.Borrow.{Bor}
+use Rattle.std.proofs.Common.{◌≡◌, ◌≢◌, ℕ, ◌+◌, ◌-◌, ◌<◌, ◌≤◌, Bool, true, false, not, cond, ltb, leb, List, [], ◌∷◌, length, get_or, take, drop, Option, Some, None, Ok, Err, refl, sym, ap, ◌∙◌, inl, inr, arith}
+use Rattle.std.specs.Prelude.{Result, ◌==◌}
 use Rattle.std.specs.Result.{result_ok}
-use Rattle.std.specs.Str.Pattern.{FindsTextPrefix, LacksTextAt, StripsPrefix}
-use Rattle.std.specs.declared.alloc.Global.{Global}
-use Rattle.plain_lists.specs.Lists.{same_list}
-use Rattle.plain_lists.proofs.Sorted.{same_list-self}
-use Rattle.job_words.specs.declared.asked.Source.{Source as StoredSource}
-use Rattle.job_words.specs.declared.asked.Asked.{Asked as StoredAsked}
-use Rattle.job_words.specs.declared.reading.Flag.{Flag as StoredFlag}
-use Rattle.job_words.specs.Asking.{asked_view, flag_view, request_view, text_of}
 use Rattle.std.specs.List.{list_all, position_or_len, before_first, after_first}
 use Rattle.std.specs.Option.{unwrap_or}
 use Rattle.std.proofs.lemmas.Bool.{cases_lt, le-ltb, lt-ltb, le-leb, lt-leb, leb-false, ne_eqb, cond-true, cond-false}
-use Rattle.std.proofs.lemmas.List.{drop_all, drop_more, take_all, take_rest, take-append-drop}
-use Rattle.std.proofs.Math.Seq.{take-append_seam}
-use Rattle.std.specs.Cmp.Lexicographic.{same_text}
+use Rattle.std.proofs.lemmas.List.{drop_all, take_all, take_rest}
 use Rattle.std.proofs.lemmas.List.Sums.{prefix_len-le-length}
 use Rattle.line_defs.specs.Numbers.{is_digit, number_of_digits}
 use Rattle.scan_defs.specs.Numbers.{uint_of}
 use Rattle.scan_defs.specs.declared.NumberFault.{NumberFault}
 use Rattle.input_defs.specs.declared.Kind.{Kind}
 use Rattle.input_defs.specs.declared.Kind.TheVariants.{Tri, Quad, Tet, Hex}
-use Rattle.input_defs.specs.Words.{Asked, Flag, Made, Request, made_of_size, most, request, request_from, request_of, with_next}
+use Rattle.input_defs.specs.Words.{Made, made_of_size, most}
 
 -- ---- a kind and a number
 
@@ -107,63 +96,6 @@ read_great kind ds n some other e lt = great_at kind ds n _ _ refl refl some oth
 
 pub read_none : (kind : Kind) (ds : List ℕ) (fault : NumberFault) → 1 ≤ length ds → get_or ds 0 0 ≢ 48 → uint_of ds ≡ Err fault → made_of_size kind ds ≡ None
 read_none kind ds fault some other e = none_at kind ds fault _ _ refl refl some other e
-
--- ---- one word after the other
-
-pub words_more : (asked : Asked) (waiting : Option Flag) (word : List ℕ) (words : List (List ℕ)) → request_from asked waiting (word ∷ words) ≡ option_and_then (λ next. request_from next.1 next.0 words) (with_next asked waiting word)
-unfolding request_from
-words_more asked waiting word words = refl
-
-pub words_end : (asked : Asked) (waiting : Option Flag) → request_from asked waiting [] ≡ request_of asked waiting
-unfolding request_from
-words_end asked waiting = refl
-
--- at a word
-pub word_next : (wanted : Option Request) (asked : Asked) (waiting : Option Flag) (words : List (String Global)) (i : ℕ) (word : String Global) (text : List ℕ) (found : Option (Option Flag × Asked)) → i < length words → word ≡ get_or words i word → text ≡ string_bytes word
-    → found ≡ with_next asked waiting text → wanted ≡ request_from asked waiting (map string_bytes (drop i words)) → wanted ≡ option_and_then (λ next. request_from next.1 next.0 (map string_bytes (drop (i + 1) words))) found
-word_next wanted asked waiting words i word text found lt word-is text-is found-is so_far =
-    let here : text ≡ string_bytes (get_or words i word) = text-is ∙ ap string_bytes word-is in
-    let at : with_next asked waiting (string_bytes (get_or words i word)) ≡ found = rw (← here) (sym found-is) in
-    so_far ∙ (ap (λ ws. request_from asked waiting (map string_bytes ws)) (drop_more words i word lt) ∙ (words_more asked waiting (string_bytes (get_or words i word)) (map string_bytes (drop (i + 1) words)) ∙ ap (option_and_then (λ next. request_from next.1 next.0 (map string_bytes (drop (i + 1) words)))) at))
-
--- behind the last word
-pub words_done : (wanted : Option Request) (asked : Asked) (waiting : Option Flag) (words : List (String Global)) (i : ℕ) → length words ≤ i → wanted ≡ request_from asked waiting (map string_bytes (drop i words)) → wanted ≡ request_of asked waiting
-words_done wanted asked waiting words i le so_far = so_far ∙ (ap (λ ws. request_from asked waiting (map string_bytes ws)) (drop_all i words le) ∙ words_end asked waiting)
-
-pub words_start : (words : List (List ℕ)) → request words ≡ request_from (record { plan = None; source = None; summary = false }) None words
-unfolding request
-words_start words = refl
-
-pub still_waiting : (asked : Asked) (waiting : Option StoredFlag) → is_some waiting ≡ true → request_of asked (option_map flag_view waiting) ≡ None
-still_waiting asked (Some flag) e = refl
-still_waiting asked None e = cc
-
-pub none_waiting : (asked : StoredAsked) (waiting : Option StoredFlag) → is_some waiting ≡ false → asked.source ≡ None → request_of (asked_view asked) (option_map flag_view waiting) ≡ None
-none_waiting asked (Some flag) e source = cc
-none_waiting asked None e source = rw source refl
-
-pub whole_request : (asked : StoredAsked) (waiting : Option StoredFlag) (source : StoredSource) → is_some waiting ≡ false → asked.source ≡ Some source
-    → request_of (asked_view asked) (option_map flag_view waiting) ≡ Some (request_view (record { plan = asked.plan; source = source; summary = asked.summary }))
-whole_request asked (Some flag) source e is = cc
-whole_request asked None source e is = rw is refl
-
--- ---- what stands after an option
-
-not_there : (s n : List ℕ) (same : Bool) → same_list (take 7 s) n ≡ same → LacksTextAt n s 0 → same ≡ false
-not_there s n false e lacks = refl
-not_there s n true e lacks = absurd (lacks (drop 7 s) (sym (take-append-drop 7 s) ∙ ap (λ front. front ++ drop 7 s) (same_text (take 7 s) n (sym e))))
-
-front_of : (n rest s : List ℕ) → length n ≡ 7 → s ≡ n ++ rest → take 7 s ≡ n
-front_of n rest s seven e = rw e (rw (← seven) (take-append_seam n rest))
-
-pub stripped : (s n : List ℕ) (found : Option (Bor (List ℕ))) → length n ≡ 7 → MatchOption found (FindsTextPrefix n s None) (λ x. StripsPrefix (FindsTextPrefix n) s x.now)
-    → option_map text_of found ≡ (if same_list (take 7 s) n then Some (drop 7 s) else None)
-stripped s n None seven m = rw (not_there s n _ refl m) refl
-stripped s n (Some x) seven m =
-    let k-is : m.0 ≡ 7 = m.1.0 ∙ seven in
-    let front : take 7 s ≡ n = front_of n _ s seven m.1.1 in
-    let text : x.now ≡ drop 7 s = m.2 ∙ ap (λ k. drop k s) k-is in
-    rw (front, same_list-self n, text) refl
 
 -- ---- numbers
 

@@ -1,76 +1,124 @@
 //! Reading the words of a call.
 
-ghost use Rattle.std.specs.Prelude.{◌≡◌, length, map, take, drop, option_map, if◌then◌else◌, Some, None, string_bytes};
-ghost use Rattle.plain_lists.specs.Lists.{same_list};
-ghost use Rattle.input_defs.specs.Words.{made_of, request, with_next, with_word};
-ghost use Rattle.job_words.specs.Asking.{asked_view, flag_view, next_view, request_view, source_view, text_of};
+ghost use Rattle.std.specs.Prelude.{◌≡◌, map, option_and_then, option_map, string_bytes, IfOk, None, Some};
+ghost use Rattle.std.specs.List.{list_any};
+ghost use Rattle.clap.specs.Matches.{found_of};
+ghost use Rattle.clap.specs.Walk.{is_empty, rows_of};
+ghost use Rattle.command_laws.specs.Command.{both_asked, file_of, flag_at, is_dashes, plan_of, request_at, source_of};
+ghost use Rattle.input_defs.specs.Words.{made_of, request, request_of};
+ghost use Rattle.job_words.specs.Asking.{request_view, source_view, text_of, texts_in};
 
-use crate::asked::{Asked, Request, Source, is_file_name};
+use crate::asked::{Request, Source, is_file_name};
+use crate::command::matches_of;
 use crate::made::made_of;
+use clap::ArgMatches;
+use plex_base::NoMemory;
+use std::alloc::Global;
 
-/// An option whose value is the next word.
-#[derive(Clone, Copy)]
-pub(crate) enum Flag {
-    Plan,
-    Make,
+/// Whether the summary is asked for.
+fn has_summary(matches: &ArgMatches<'_>) -> bool
+    ensures { result ≡ flag_at (rows_of (found_of matches.now)) }
+{
+    match matches.get_str("summary") {
+        Some(value) => value == "true",
+        None => false,
+    }
 }
 
-/// What stands in a word after an option and `=`.
-fn value_of<'a>(word: &'a str, option: &str) -> Option<&'a str>
-    requires { length option.now ≡ 7 }
-    ensures { option_map text_of result ≡ (if same_list (take 7 word.entry.now) option.now then Some (drop 7 word.entry.now) else None) }
+/// The name of the plan's file, of which there is at most one.
+fn plan_of<'a>(names: Option<&[&'a str]>) -> Option<Option<&'a str>>
+    ensures { option_map (option_map text_of) result ≡ plan_of (texts_in names.entry) }
 {
-    word.strip_prefix(option)
+    let Some(names) = names else {
+        return Some(None);
+    };
+    match names {
+        [] => Some(None),
+        [name] if is_file_name(name.as_bytes()) => Some(Some(*name)),
+        _ => None,
+    }
+}
+
+/// The mesh's file, of which there is at most one.
+fn file_of<'a>(names: Option<&[&'a str]>) -> Option<Option<Source<'a>>>
+    ensures { option_map (option_map source_view) result ≡ file_of (texts_in names.entry) }
+{
+    let Some(names) = names else {
+        return Some(None);
+    };
+    match names {
+        [] => Some(None),
+        [name] if is_file_name(name.as_bytes()) => Some(Some(Source::File(*name))),
+        _ => None,
+    }
 }
 
 /// The generated mesh that a word names.
-fn made<'a>(word: &str) -> Option<Source<'a>>
-    ensures { option_map source_view result ≡ made_of word.now }
+fn made<'a>(word: &str) -> Option<Option<Source<'a>>>
+    ensures { option_map (option_map source_view) result ≡ option_map Some (made_of word.now) }
 {
     let (kind, n) = made_of(word.as_bytes())?;
-    Some(Source::Made(kind, n))
+    Some(Some(Source::Made(kind, n)))
 }
 
-/// Takes a word for which no option waits: what is asked with it, and the option that waits then.
-#[tactic(auto, unfolding(input_defs::specs::Words::with_word))]
-fn with_word<'a>(asked: Asked<'a>, word: &'a str) -> Option<(Option<Flag>, Asked<'a>)>
-    ensures { option_map next_view result ≡ with_word (asked_view asked.entry) word.entry.now }
+/// The generated mesh or the mesh's file, of which there is at most one.
+fn source_of<'a>(
+    made_words: Option<&[&'a str]>,
+    names: Option<&[&'a str]>,
+) -> Option<Option<Source<'a>>>
+    ensures { option_map (option_map source_view) result ≡ source_of (texts_in made_words.entry) (texts_in names.entry) }
 {
-    let bytes = word.as_bytes();
-    if bytes == b"--plan".as_slice() {
-        return Some((Some(Flag::Plan), asked));
+    let Some(made_words) = made_words else {
+        return file_of(names);
+    };
+    match made_words {
+        [] => file_of(names),
+        [word] if has_none(names) => made(*word),
+        _ => None,
     }
-    if bytes == b"--make".as_slice() {
-        return Some((Some(Flag::Make), asked));
-    }
-    if bytes == b"--summary".as_slice() {
-        return Some((None, asked.with_summary()?));
-    }
-    if let Some(name) = value_of(word, "--plan=") {
-        return Some((None, asked.with_plan(name)?));
-    }
-    if let Some(name) = value_of(word, "--make=") {
-        return Some((None, asked.with_source(made(name))?));
-    }
-    if !is_file_name(bytes) {
-        return None;
-    }
-    Some((None, asked.with_source(Some(Source::File(word)))?))
 }
 
-/// Takes the next word: what is asked with it, and the option that waits then.
-fn with_next<'a>(
-    asked: Asked<'a>,
-    waiting: Option<Flag>,
-    word: &'a str,
-) -> Option<(Option<Flag>, Asked<'a>)>
-    ensures { option_map next_view result ≡ with_next (asked_view asked.entry) (option_map flag_view waiting) word.entry.now }
+/// Whether there is no value.
+fn has_none(values: Option<&[&str]>) -> bool
+    ensures { result ≡ is_empty (texts_in values.entry) }
 {
-    match waiting {
-        None => with_word(asked, word),
-        Some(Flag::Plan) => Some((None, asked.with_plan(word)?)),
-        Some(Flag::Make) => Some((None, asked.with_source(made(word))?)),
+    match values {
+        Some(values) => values.is_empty(),
+        None => true,
     }
+}
+
+/// What is asked for, where the plan's name and the source are right and there is a source.
+fn combined<'a>(
+    plan: Option<Option<&'a str>>,
+    source: Option<Option<Source<'a>>>,
+    summary: bool,
+) -> Option<Request<'a>>
+    ensures { option_map request_view result ≡ option_and_then (λ asked. request_of asked None) (both_asked summary (option_map (option_map text_of) plan.entry) (option_map (option_map source_view) source.entry)) }
+{
+    let plan = plan?;
+    let source = source??;
+    Some(Request {
+        plan,
+        source,
+        summary,
+    })
+}
+
+/// What matches ask for, where their values are right.
+fn request_of<'a>(matches: &ArgMatches<'a>) -> Option<Request<'a>>
+    ensures { option_map request_view result ≡ request_at (rows_of (found_of matches.now)) }
+{
+    let plan = plan_of(matches.get_raw("plan"));
+    let source = source_of(matches.get_raw("make"), matches.get_raw("mesh"));
+    combined(plan, source, has_summary(matches))
+}
+
+/// Whether `--` stands alone among the words.
+fn has_dashes(words: &[String]) -> bool
+    ensures { result ≡ list_any is_dashes (map string_bytes words.now) }
+{
+    words.iter().any(|word| word.as_str() == "--")
 }
 
 /// What the words of a call ask for, those after the program's name, where they are accepted.
@@ -78,27 +126,14 @@ fn with_next<'a>(
 /// They are these, in any order and each at most once: `--plan NAME` or `--plan=NAME`, `--summary`,
 /// and either `--make KIND:N` or `--make=KIND:N`, or the name of a mesh file, exactly one of the two.
 /// A name is not empty and does not begin with `-`.
-pub fn read_words(words: &[String]) -> Option<Request<'_>>
-    ensures { option_map request_view result ≡ request (map string_bytes words.now) }
+pub fn read_words(alloc: Global, words: &[String]) -> Result<Option<Request<'_>>, NoMemory>
+    ensures { IfOk result (λ asked. option_map request_view asked ≡ request (map string_bytes words.now)) }
 {
-    let mut waiting = None;
-    let mut asked = Asked {
-        plan: None,
-        source: None,
-        summary: false,
+    if has_dashes(words) {
+        return Ok(None);
+    }
+    let Some(matches) = matches_of(alloc, words)? else {
+        return Ok(None);
     };
-    for word in words {
-        let next = with_next(asked, waiting, word.as_str())?;
-        waiting = next.0;
-        asked = next.1;
-    }
-    if waiting.is_some() {
-        return None;
-    }
-    let source = asked.source?;
-    Some(Request {
-        plan: asked.plan,
-        source,
-        summary: asked.summary,
-    })
+    Ok(request_of(&matches))
 }

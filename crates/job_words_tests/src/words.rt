@@ -30,7 +30,7 @@ fn accepted(rt: HostRuntime) -> Result<(), Fail> {
             source,
             summary,
         };
-        assert_eq!(rt; read_words(&words), Some(want), "{text:?}");
+        assert_eq!(rt; read_words(rt.alloc(), &words)?, Some(want), "{text:?}");
     }
     Ok(())
 }
@@ -44,7 +44,7 @@ fn generated(rt: HostRuntime) -> Result<(), Fail> {
         ("--make=hex:1", Kind::Hex, 1),
     ] {
         let words = words_of(rt.alloc(), text)?;
-        let found = read_words(&words).map(|asked| asked.source);
+        let found = read_words(rt.alloc(), &words)?.map(|asked| asked.source);
         assert_eq!(rt; found, Some(Source::Made(kind, n)), "{text:?}");
     }
     Ok(())
@@ -52,7 +52,7 @@ fn generated(rt: HostRuntime) -> Result<(), Fail> {
 
 #[test]
 fn refused(rt: HostRuntime) -> Result<(), Fail> {
-    assert_eq!(rt; read_words(&[]), None);
+    assert_eq!(rt; read_words(rt.alloc(), &[])?, None);
     for text in [
         "",
         "-",
@@ -97,7 +97,7 @@ fn refused(rt: HostRuntime) -> Result<(), Fail> {
         "--make --summary",
     ] {
         let words = words_of(rt.alloc(), text)?;
-        assert_eq!(rt; read_words(&words), None, "{text:?}");
+        assert_eq!(rt; read_words(rt.alloc(), &words)?, None, "{text:?}");
     }
     Ok(())
 }

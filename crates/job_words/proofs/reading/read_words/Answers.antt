@@ -1,30 +1,21 @@
-use Rattle.std.proofs.Common.{◌∙◌, sym, map, string_bytes}
-use Rattle.std.specs.Prelude.{None}
-use Rattle.input_defs.specs.Words.{request}
-use Rattle.job_words.proofs.WordLemmas.{word_next, words_done, words_start, still_waiting, none_waiting, whole_request}
+use Rattle.std.proofs.Common.{◌∙◌, map, string_bytes, subst, sym}
+use Rattle.clap.specs.Matches.{found_of}
+use Rattle.clap.specs.Walk.{rows_of}
+use Rattle.command_laws.proofs.SideBySide.{dashes_refused}
+use Rattle.job_words.specs.Asking.{IsMatched}
+use Rattle.job_words.proofs.Matched.{no_request, request_is}
 use Rattle.job_words.proofs.reading.read_words.Goals as goal
 
-pub loop-word-init : goal.loop-word-init
-loop-word-init c = words_start (map string_bytes c.args.words.now)
+pub returns-then-has_dashes : goal.returns-then-has_dashes
+returns-then-has_dashes c = sym (dashes_refused (map string_bytes c.args.words.now) (sym c.has_dashes.ensures ∙ c.if-has_dashes.true))
 
-pub returns-in_err-next : goal.returns-in_err-next
-returns-in_err-next c =
-    rw c.from_residual.ensures
-    (sym (word_next (request (map string_bytes c.args.words.now)) _ _ c.args.words.now c.loop-word.word-index c.word-item.result c.as_str.result.now None c.loop-word-test.true c.word-item.is c.as_str.ensures.value c.in_err-next.ensures c.loop-word.invariant))
-
-pub loop-word-preserved : goal.loop-word-preserved
-loop-word-preserved c =
-    word_next (request (map string_bytes c.args.words.now)) _ _ c.args.words.now c.loop-word.word-index c.word-item.result c.as_str.result.now _ c.loop-word-test.true c.word-item.is c.as_str.ensures.value c.in_ok-next.ensures c.loop-word.invariant
-
-pub returns-then-is_some : goal.returns-then-is_some
-returns-then-is_some c =
-    sym (words_done _ _ _ c.args.words.now c.loop-word.word-index c.loop-word-test.false c.loop-word.invariant ∙ still_waiting _ c.loop-word.waiting (sym c.is_some.ensures ∙ c.if-is_some.true))
-
-pub returns-in_err-source : goal.returns-in_err-source
-returns-in_err-source c =
-    rw c.from_residual-in_err-source.ensures
-    (sym (words_done _ _ _ c.args.words.now c.loop-word.word-index c.loop-word-test.false c.loop-word.invariant ∙ none_waiting c.loop-word.asked c.loop-word.waiting (sym c.is_some.ensures ∙ c.if-is_some.false) c.in_err-source.was))
+pub returns-in_default : goal.returns-in_default
+returns-in_default c =
+    let texts = map string_bytes c.args.words.now in
+    no_request texts (sym c.has_dashes.ensures ∙ c.if-has_dashes.false) (subst (IsMatched texts) c.in_default.is c.in_ok-matches.ensures)
 
 pub returns : goal.returns
 returns c =
-    sym (words_done _ _ _ c.args.words.now c.loop-word.word-index c.loop-word-test.false c.loop-word.invariant ∙ whole_request c.loop-word.asked c.loop-word.waiting c.in_ok-source.source (sym c.is_some.ensures ∙ c.if-is_some.false) c.in_ok-source.was)
+    let texts = map string_bytes c.args.words.now in
+    let m = subst (IsMatched texts) c.in-Some.is c.in_ok-matches.ensures in
+    c.request_of.ensures ∙ request_is texts (rows_of (found_of c.in-Some.matches)) (sym c.has_dashes.ensures ∙ c.if-has_dashes.false) m.0 m.1

@@ -1,0 +1,5 @@
+mod Asking
+pub mod SideBySide
+mod Spelling
+mod Steps
+mod Values

@@ -1,0 +1,2 @@
+//! Laws of the simple command by which the words of a call are read with `clap`.
+#![tactic(auto)]
