@@ -1,2 +1,10 @@
-mod Answering
-mod Meshes
+pub mod Serial
+pub mod Begun
+pub mod Endings
+pub mod Course
+pub mod Calls
+pub mod Twists
+pub mod Printing
+pub mod PickLemmas
+pub mod ByPicks
+pub mod ReplayCalls

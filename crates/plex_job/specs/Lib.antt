@@ -1,3 +1,6 @@
-pub mod Words
-pub mod Answer
-pub mod Outcome
+pub mod Seen
+pub mod Statuses
+pub mod Serial
+pub mod Begun
+pub mod Spreading
+pub mod Pieces

@@ -1,13 +1,16 @@
 //! From the words of a command to the text that it prints: the top call.
 //!
-//! [`job`] reads one mesh file and writes its oriented diagram on one rank. Its
-//! contract says, for each status, what was written and why. The diagram comes from `plex_serial`,
-//! files and output from any shelf and sink.
+//! [`job`] takes the files that the words name, runs the rounds of their plan on a fabric and writes
+//! the mesh as it is spread over ranks, step by step. [`replay`] does the same with rounds whose
+//! interleaving the first word gives.
 #![tactic(auto)]
 
-mod drawing;
-mod outcome;
+mod ending;
+mod picks;
+mod running;
+mod spreading;
+mod steps;
 mod top;
 
 pub use input_defs::Status;
-pub use top::job;
+pub use top::{job, replay};

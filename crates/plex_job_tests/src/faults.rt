@@ -1,5 +1,5 @@
 use crate::files::{TWO_TRIANGLES, TWO_TRIANGLES_TEXT};
-use crate::runs::{shelf, sink, words};
+use crate::runs::{script, shelf, sink, words};
 use plex_job::{Status, job};
 use std::test::Fail;
 
@@ -24,7 +24,13 @@ fn faults(rt: HostRuntime) -> Result<(), Fail> {
         let mut out = sink(rt.alloc(), &[call])?;
         let words = words(rt.alloc(), &["mesh"])?;
         assert_eq!(rt;
-            job(rt.alloc(), &words, &mut shelf, &mut out),
+            job(
+                rt.alloc(),
+                &words,
+                &mut shelf,
+                &mut out,
+                &mut script(rt.alloc())
+            ),
             status,
             "{text}"
         );

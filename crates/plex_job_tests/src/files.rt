@@ -234,3 +234,142 @@ $Elements
 2 5 2 0 1 ";
 
 pub(crate) const LAST_LINE: &str = "\n$EndElements\n";
+
+/// Two triangles with a field, two parts, and all that is shown of one rank.
+pub(crate) const WINDOWS_PLAN: &str = "ranks 1
+part block
+show windows
+";
+
+/// Of one triangle.
+pub(crate) const WINDOWS_TEXT: &str = "mesh dim 2 cells 1 vertices 3 unused 0 loose 0 merged 0
+ranks 1
+step 0 part
+rank 0 cells 1 held 7 owned 7 base 0
+total 7 cells 1 vertices 3 faces 0 edges 3
+W number 0 0 7 0:7:0
+end
+";
+
+pub(crate) const CLOSURES_PLAN: &str = "ranks 1
+part block
+show points
+show closure
+";
+
+/// Of two triangles.
+pub(crate) const CLOSURES_TEXT: &str = "mesh dim 2 cells 2 vertices 4 unused 0 loose 0 merged 0
+ranks 1
+step 0 part
+rank 0 cells 2 held 11 owned 11 base 0
+total 11 cells 2 vertices 4 faces 0 edges 5
+P 0 c0 6:0 7:0 8:0
+P 1 c1 9:0 10:0 7:-1
+P 2 v0 @ 0 0 0
+P 3 v1 @ 1 0 0
+P 4 v2 @ 0 1 0
+P 5 v3 @ 1 1 0
+P 6 e8 2:0 3:0
+P 7 e9 3:0 4:0
+P 8 e10 4:0 2:0
+P 9 e72 3:0 5:0
+P 10 e73 5:0 4:0
+C 0 0:0 6:0 7:0 8:0 2:0 3:0 4:0
+C 1 1:0 9:0 10:0 7:-1 3:0 5:0 4:0
+end
+";
+
+pub(crate) const SHOWN_PLAN: &str = "ranks 1
+dofs u 1 0 2 0
+part block
+part stripe
+show points
+show local
+show closure
+show trace
+show windows
+";
+
+pub(crate) const SHOWN_TEXT: &str = "mesh dim 2 cells 2 vertices 4 unused 0 loose 0 merged 0
+field 0 dofs \"u\" 1 0 2 0
+ranks 1
+step 0 part
+rank 0 cells 2 held 11 owned 11 base 0
+total 11 cells 2 vertices 4 faces 0 edges 5
+P 0 c0 6:0 7:0 8:0 d0=1,2
+P 1 c1 9:0 10:0 7:-1 d0=2,4
+P 2 v0 @ 0 0 0 d0=1
+P 3 v1 @ 1 0 0 d0=3
+P 4 v2 @ 0 1 0 d0=3
+P 5 v3 @ 1 1 0 d0=2
+P 6 e8 2:0 3:0
+P 7 e9 3:0 4:0
+P 8 e10 4:0 2:0
+P 9 e72 3:0 5:0
+P 10 e73 5:0 4:0
+L 0 0 c0 0 0 6:0 7:0 8:0 d0=1,2
+L 0 1 c1 0 1 9:0 10:0 7:-1 d0=2,4
+L 0 2 v0 0 2 @ 0 0 0 d0=1
+L 0 3 v1 0 3 @ 1 0 0 d0=3
+L 0 4 v2 0 4 @ 0 1 0 d0=3
+L 0 5 v3 0 5 @ 1 1 0 d0=2
+L 0 6 e8 0 6 2:0 3:0
+L 0 7 e9 0 7 3:0 4:0
+L 0 8 e10 0 8 4:0 2:0
+L 0 9 e72 0 9 3:0 5:0
+L 0 10 e73 0 10 5:0 4:0
+C 0 0:0 6:0 7:0 8:0 2:0 3:0 4:0
+C 1 1:0 9:0 10:0 7:-1 3:0 5:0 4:0
+T 0 0 0
+T 1 0 1
+T 2 0 2
+T 3 0 3
+T 4 0 4
+T 5 0 5
+T 6 0 6
+T 7 0 7
+T 8 0 8
+T 9 0 9
+T 10 0 10
+W number 0 0 11 0:11:0
+step 1 part
+rank 0 cells 2 held 11 owned 11 base 0
+total 11 cells 2 vertices 4 faces 0 edges 5
+P 0 c0 6:0 7:0 8:0 d0=1,2
+P 1 c1 9:0 10:0 7:-1 d0=2,4
+P 2 v0 @ 0 0 0 d0=1
+P 3 v1 @ 1 0 0 d0=3
+P 4 v2 @ 0 1 0 d0=3
+P 5 v3 @ 1 1 0 d0=2
+P 6 e8 2:0 3:0
+P 7 e9 3:0 4:0
+P 8 e10 4:0 2:0
+P 9 e72 3:0 5:0
+P 10 e73 5:0 4:0
+L 0 0 c0 0 0 6:0 7:0 8:0 d0=1,2
+L 0 1 c1 0 1 9:0 10:0 7:-1 d0=2,4
+L 0 2 v0 0 2 @ 0 0 0 d0=1
+L 0 3 v1 0 3 @ 1 0 0 d0=3
+L 0 4 v2 0 4 @ 0 1 0 d0=3
+L 0 5 v3 0 5 @ 1 1 0 d0=2
+L 0 6 e8 0 6 2:0 3:0
+L 0 7 e9 0 7 3:0 4:0
+L 0 8 e10 0 8 4:0 2:0
+L 0 9 e72 0 9 3:0 5:0
+L 0 10 e73 0 10 5:0 4:0
+C 0 0:0 6:0 7:0 8:0 2:0 3:0 4:0
+C 1 1:0 9:0 10:0 7:-1 3:0 5:0 4:0
+T 0 0 0
+T 1 0 1
+T 2 0 2
+T 3 0 3
+T 4 0 4
+T 5 0 5
+T 6 0 6
+T 7 0 7
+T 8 0 8
+T 9 0 9
+T 10 0 10
+W number 0 0 11 0:11:0
+end
+";

@@ -8,6 +8,8 @@ mod files;
 #[cfg(test)]
 mod orientations;
 #[cfg(test)]
+mod plans;
+#[cfg(test)]
 mod refusals;
 #[cfg(test)]
 mod runs;

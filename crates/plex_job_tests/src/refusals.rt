@@ -1,4 +1,4 @@
-use crate::runs::{run, shelf, sink, with_lines, words};
+use crate::runs::{run, script, shelf, sink, with_lines, words};
 use plex_job::{Status, job};
 use std::test::Fail;
 
@@ -74,7 +74,13 @@ fn words_and_files(rt: HostRuntime) -> Result<(), Fail> {
         let mut out = sink(rt.alloc(), &[])?;
         let words = words(rt.alloc(), line)?;
         assert_eq!(rt;
-            job(rt.alloc(), &words, &mut shelf, &mut out),
+            job(
+                rt.alloc(),
+                &words,
+                &mut shelf,
+                &mut out,
+                &mut script(rt.alloc())
+            ),
             status,
             "{text}"
         );

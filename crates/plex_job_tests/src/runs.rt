@@ -2,8 +2,12 @@
 
 use crate::files::ONE_TRIANGLE;
 use plex_job::{Status, job};
+use sf_fabric::Fabric;
+use sf_script::ScriptFabric;
+use sf_threads::{NoGate, ThreadFabric};
 use shelf_io::{MemoryShelf, MemorySink};
 use std::alloc::{AllocError, Global};
+use std::thread::Threads;
 
 /// These words.
 pub(crate) fn words(alloc: Global, words: &[&str]) -> Result<Vec<String>, AllocError> {
@@ -16,10 +20,21 @@ pub(crate) fn words(alloc: Global, words: &[&str]) -> Result<Vec<String>, AllocE
 
 /// A shelf with these bytes under the name `mesh`.
 pub(crate) fn shelf(alloc: Global, bytes: &[u8], fail: &[u32]) -> Result<MemoryShelf, AllocError> {
-    let name = String::from_str(alloc, "mesh")?;
-    let bytes = Vec::from_slice(alloc, bytes)?;
-    let files = vec![in alloc; (name, bytes)]?;
-    Ok(MemoryShelf::new(files, Vec::from_slice(alloc, fail)?))
+    shelf_of(alloc, &[("mesh", bytes)], fail)
+}
+
+/// A shelf with these bytes under these names.
+fn shelf_of(
+    alloc: Global,
+    files: &[(&str, &[u8])],
+    fail: &[u32],
+) -> Result<MemoryShelf, AllocError> {
+    let mut all = Vec::new(alloc);
+    for (name, bytes) in files {
+        let name = String::from_str(alloc, name)?;
+        all.push((name, Vec::from_slice(alloc, bytes)?))?;
+    }
+    Ok(MemoryShelf::new(all, Vec::from_slice(alloc, fail)?))
 }
 
 /// A sink with room enough.
@@ -28,13 +43,41 @@ pub(crate) fn sink(alloc: Global, fail: &[(u32, u32)]) -> Result<MemorySink, All
     Ok(MemorySink::new(room, Vec::from_slice(alloc, fail)?))
 }
 
+/// A fabric whose ranks take their turns one after another.
+pub(crate) fn script(alloc: Global) -> ScriptFabric {
+    ScriptFabric::new(Vec::new(alloc))
+}
+
+/// The status and the sink after a run with these words on these files.
+fn run_by<F: Fabric>(
+    alloc: Global,
+    line: &[&str],
+    files: &[(&str, &[u8])],
+    fabric: &mut F,
+) -> Result<(Status, MemorySink), AllocError> {
+    let mut shelf = shelf_of(alloc, files, &[])?;
+    let mut out = sink(alloc, &[])?;
+    let words = words(alloc, line)?;
+    let status = job(alloc, &words, &mut shelf, &mut out, fabric);
+    Ok((status, out))
+}
+
 /// The status and the sink after a run on a mesh file.
 pub(crate) fn run(alloc: Global, bytes: &[u8]) -> Result<(Status, MemorySink), AllocError> {
-    let mut shelf = shelf(alloc, bytes, &[])?;
-    let mut out = sink(alloc, &[])?;
-    let words = words(alloc, &["mesh"])?;
-    let status = job(alloc, &words, &mut shelf, &mut out);
-    Ok((status, out))
+    run_by(alloc, &["mesh"], &[("mesh", bytes)], &mut script(alloc))
+}
+
+/// The statuses and the sinks after two runs with these words on these files: by a script and by threads.
+pub(crate) fn run_both<R: Threads>(
+    rt: &R,
+    alloc: Global,
+    line: &[&str],
+    files: &[(&str, &[u8])],
+) -> Result<[(Status, MemorySink); 2], AllocError> {
+    let by_script = run_by(alloc, line, files, &mut script(alloc))?;
+    let mut threads = ThreadFabric::new(rt, alloc, NoGate);
+    let by_threads = run_by(alloc, line, files, &mut threads)?;
+    Ok([by_script, by_threads])
 }
 
 /// The file of one triangle, with these texts in place of some lines, which count from 1. A line whose

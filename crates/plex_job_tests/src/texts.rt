@@ -2,17 +2,19 @@ use crate::files::{
     MERGED, MERGED_TEXT, ONE_TRIANGLE_TEXT, PLATE, PLATE_TEXT, TEMPERATURES, TEMPERATURES_TEXT,
     TWO_TRIANGLES, TWO_TRIANGLES_TEXT,
 };
-use crate::runs::{run, with_lines};
+use crate::runs::{run_both, with_lines};
 use plex_job::Status;
 use std::test::Fail;
 
 #[test]
 fn whole_files(rt: HostRuntime) -> Result<(), Fail> {
     for (file, text) in [(TWO_TRIANGLES, TWO_TRIANGLES_TEXT), (PLATE, PLATE_TEXT)] {
-        let (status, out) = run(rt.alloc(), file.as_bytes())?;
-        assert_eq!(rt; status, Status::Done);
-        assert_eq!(rt; out.bytes(), text.as_bytes());
-        assert_eq!(rt; out.flushed(), text.len());
+        let files = [("mesh", file.as_bytes())];
+        for (status, out) in run_both(&rt, rt.alloc(), &["mesh"], &files)? {
+            assert_eq!(rt; status, Status::Done);
+            assert_eq!(rt; out.bytes(), text.as_bytes());
+            assert_eq!(rt; out.flushed(), text.len());
+        }
     }
     Ok(())
 }
@@ -32,9 +34,11 @@ fn changed_triangles(rt: HostRuntime) -> Result<(), Fail> {
     ];
     for (changes, text) in runs {
         let bytes = with_lines(rt.alloc(), changes)?;
-        let (status, out) = run(rt.alloc(), &bytes)?;
-        assert_eq!(rt; status, Status::Done);
-        assert_eq!(rt; out.bytes(), text.as_bytes());
+        let files = [("mesh", bytes.as_slice())];
+        for (status, out) in run_both(&rt, rt.alloc(), &["mesh"], &files)? {
+            assert_eq!(rt; status, Status::Done);
+            assert_eq!(rt; out.bytes(), text.as_bytes());
+        }
     }
     Ok(())
 }

@@ -1,13 +1,16 @@
-//! `plexrun MESH` prints the oriented diagram of a mesh file of the working folder.
+//! `plexrun [--plan NAME] [--summary] MESH` prints the oriented diagram of a mesh file of the working folder, as a plan
+//! asks for it; `--make KIND:N` may stand in place of `MESH`.
 //!
-//! Its exit status is that of the top call.
+//! Its rounds go by threads, and its exit status is that of the top call.
 #![tactic(auto)]
 
 use plex_job::{Status, job};
+use sf_threads::{NoGate, ThreadFabric};
 use shelf_io::{FolderShelf, OutSink};
 use std::io::ErrorKind;
 use std::process::ExitCode;
 use std::rt::{Env, Files};
+use std::thread::Threads;
 use std::{env, io};
 
 /// The words after the program's name.
@@ -17,13 +20,14 @@ fn words<R: Env + AllocGlobal>(rt: &R) -> io::Result<Vec<String>> {
 }
 
 /// Does what the words ask for. Words that can't be read count as refused ones.
-fn run<R: Env + Files + Print + AllocGlobal>(rt: &R) -> Status {
+fn run<R: Env + Files + Print + AllocGlobal + Threads>(rt: &R) -> Status {
     let mut shelf = FolderShelf::new(rt);
     let mut out = OutSink::new(rt);
+    let mut fabric = ThreadFabric::new(rt, rt.alloc(), NoGate);
     match words(rt) {
-        Ok(words) => job(rt.alloc(), &words, &mut shelf, &mut out),
+        Ok(words) => job(rt.alloc(), &words, &mut shelf, &mut out, &mut fabric),
         Err(e) if e.kind() == ErrorKind::OutOfMemory => Status::NoMemory,
-        Err(_) => job(rt.alloc(), &[], &mut shelf, &mut out),
+        Err(_) => job(rt.alloc(), &[], &mut shelf, &mut out, &mut fabric),
     }
 }
 

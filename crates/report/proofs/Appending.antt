@@ -20,19 +20,3 @@ appended-on_line (Ok x) l old text mid new e f = appended-two old (on_line l [])
     regroup : (n : ℕ) (t : List ℕ) → on_line n [] ++ t ≡ on_line n t
     regroup n t = ap (λ (s : List ℕ). s ++ t) (append-nil (codes "line " ++ decimal n ++ codes " "))
 appended-on_line (Err x) l old text mid new e f = f
-
--- ---- values
-
--- values with commas between, as a first one and others after commas
-pub joined : (first : List ℕ) (others : List ℤ) → join_with_byte 44 (first ∷ map fixed_text others) ≡ first ++ flat_map (λ x. codes "," ++ fixed_text x) others
-joined first [] = sym (append-nil first)
-joined first (x ∷ others) = ap (λ (t : List ℕ). first ++ (44 ∷ t)) (joined (fixed_text x) others)
-
--- a field's values, part by part
-pub appended-values : {A E : Type 0} (r : Result A E) (old before equals first rest all l1 l2 l3 new : List ℕ) → all ≡ first ++ rest → l1 ≡ old ++ before → l2 ≡ l1 ++ equals → l3 ≡ l2 ++ first → OnOk r (new ≡ l3 ++ rest)
-    → OnOk r (new ≡ old ++ (before ++ equals ++ all))
-appended-values (Ok x) old before equals first rest all l1 l2 l3 new e a b c d =
-    let head : l2 ≡ old ++ (before ++ equals) = appended-two old before equals l1 l2 a b in
-    let tail : new ≡ l2 ++ (first ++ rest) = appended-two l2 first rest l3 new c d in
-    appended-two old (before ++ equals) all l2 new head (tail ∙ ap (λ (t : List ℕ). l2 ++ t) (sym e))
-appended-values (Err x) old before equals first rest all l1 l2 l3 new e a b c d = d

@@ -1,21 +1,22 @@
 //! The head of a text: the mesh, its physical names, its data sections, and the number of ranks.
 
-ghost use Rattle.std.specs.Prelude.{◌≡◌, ◌++◌, ◌<◌, [], length, OnOk, flat_map};
+ghost use Rattle.std.specs.Prelude.{◌≡◌, ◌++◌, ◌<◌, ◌+◌, [], length, OnOk, flat_map, decimal, codes};
 ghost use Rattle.std.specs.List.{enumerate_from};
 ghost use Rattle.plex_base.specs.DataFields.{section_on};
 ghost use Rattle.cause_defs.specs.Reports.{Reports};
 ghost use Rattle.text_defs.specs.Text.{mesh_line, ranks_line};
-ghost use Rattle.input_defs.specs.Further.{in_quotes, place_text, name_line, section_line, full_head};
-ghost use Rattle.report.specs.Heads.{mesh_head_line, name_at, field_at};
+ghost use Rattle.input_defs.specs.Further.{in_quotes, place_text, name_line, section_line, dofs_line, full_head};
+ghost use Rattle.report.specs.Heads.{mesh_head_line, name_at, field_at, dofs_at};
 
-use crate::line::append_field;
-use crate::writing::write_line;
 use cause_defs::ReportFault;
 use itoa::Buffer;
 use mesh_defs::Place;
+use plan_reader::{Plan, Show};
 use plex_base::{DataField, NoMemory};
 use plex_mesh::Mesh;
+use report_lines::{append_field, append_number, write_line};
 use shelf_io::Sink;
+use std::alloc::Global;
 
 /// A text in quotes, after a blank.
 #[tactic(auto, using(std::proofs::Common::append_assoc))]
@@ -147,16 +148,85 @@ fn write_ranks_line<W: Sink>(line: &mut Vec<u8>, ranks: u32, out: &mut W) -> Res
     write_line(out, line)
 }
 
-/// Writes the head of the text of a mesh on one rank, where no plan has `dofs`.
-pub(crate) fn write_mesh_head<W: Sink>(
+/// How many words a section has at the points of each dimension, each after a blank.
+fn append_counts(line: &mut Vec<u8>, counts: &[u32; 4]) -> Result<(), NoMemory>
+    ensures { OnOk result (line.new.items ≡ line.old.items ++ flat_map (λ n. codes " " ++ decimal n) counts.now) }
+{
+    for count in counts {
+        line.push(b' ')?;
+        append_number(line, u64::from(*count))?;
+    }
+    Ok(())
+}
+
+#[tactic(auto, unfolding(input_defs::specs::Further::dofs_line), using(std::proofs::Common::append_assoc))]
+fn append_dofs_line(
     line: &mut Vec<u8>,
-    mesh: &Mesh,
+    i: u64,
+    name: &[u8],
+    counts: &[u32; 4],
+) -> Result<(), NoMemory>
+    ensures { OnOk result (line.new.items ≡ line.old.items ++ dofs_line (i, record { name = name.now; dofs = counts.now })) }
+{
+    append_field(line, b"field ", i)?;
+    line.extend_from_slice(b" dofs")?;
+    append_quoted(line, name)?;
+    append_counts(line, counts)?;
+    line.push(b'\n')?;
+    Ok(())
+}
+
+/// Writes the line of section `i` of a plan, after so many data sections.
+fn write_dofs_of<W: Sink>(
+    line: &mut Vec<u8>,
+    plan: &Plan,
+    first: usize,
+    i: usize,
     out: &mut W,
 ) -> Result<(), ReportFault>
-    ensures { Reports W.written W.flushed W.faults W.counts_failures_alone result out.old out.new (full_head mesh.now [] 1) }
+    requires { i < length plan.now.plan.dofs }
+    ensures { Reports W.written W.flushed W.faults W.counts_failures_alone result out.old out.new (dofs_line (first + i, dofs_at plan.now.plan.dofs i)) }
 {
+    let (name, counts) = plan.dof(i);
+    // More sections than fit 64 bits fit no memory.
+    let number = first.checked_add(i).ok_or(NoMemory)?;
+    line.clear();
+    append_dofs_line(line, number as u64, name, &counts)?;
+    write_line(out, line)
+}
+
+fn write_dofs<W: Sink>(
+    line: &mut Vec<u8>,
+    mesh: &Mesh,
+    plan: &Plan,
+    out: &mut W,
+) -> Result<(), ReportFault>
+    ensures { Reports W.written W.flushed W.faults W.counts_failures_alone result out.old out.new (flat_map dofs_line (enumerate_from (length mesh.now.fields) plan.now.plan.dofs)) }
+{
+    for i in 0..plan.dofs() {
+        write_dofs_of(line, plan, mesh.fields(), i, out)?;
+    }
+    Ok(())
+}
+
+/// Writes the head of a text: the mesh, its physical names, its data sections, the sections of the
+/// plan, and the number of ranks. What is shown does not change it.
+///
+/// Fails where the sink does, or for want of memory. Then nothing, or a part of the head from its
+/// beginning, is added.
+pub fn write_head<W: Sink>(
+    alloc: Global,
+    mesh: &Mesh,
+    plan: &Plan,
+    _show: &Show,
+    out: &mut W,
+) -> Result<(), ReportFault>
+    ensures { Reports W.written W.flushed W.faults W.counts_failures_alone result out.old out.new (full_head mesh.now plan.now.plan.dofs plan.now.plan.ranks) }
+{
+    let line = &mut Vec::new(alloc);
     write_mesh_line(line, mesh, out)?;
     write_names(line, mesh, out)?;
     write_sections(line, mesh, out)?;
-    write_ranks_line(line, 1, out)
+    write_dofs(line, mesh, plan, out)?;
+    write_ranks_line(line, plan.ranks(), out)
 }

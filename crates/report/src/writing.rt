@@ -1,20 +1,11 @@
 //! Lines that are written.
 
 ghost use Rattle.std.specs.Prelude.{◌≡◌};
-ghost use Rattle.cause_defs.specs.Reports.{Reports};
 ghost use Rattle.text_defs.specs.Text.{end_line};
 ghost use Rattle.report.specs.Delivery.{Delivers};
 
 use cause_defs::ReportFault;
 use shelf_io::Sink;
-
-/// Writes a line that another one follows.
-pub(crate) fn write_line<W: Sink>(out: &mut W, line: &[u8]) -> Result<(), ReportFault>
-    ensures { Reports W.written W.flushed W.faults W.counts_failures_alone result out.old out.new line.now }
-{
-    out.write(line)?;
-    Ok(())
-}
 
 /// Writes the last line of a text, and flushes.
 pub(crate) fn write_last<W: Sink>(out: &mut W, line: &[u8]) -> Result<(), ReportFault>

@@ -1,4 +1,4 @@
-use Rattle.report.proofs.Drawn.{number-place}
+use Rattle.report.proofs.Numbered.{number-place}
 use Rattle.report.proofs.laws.numbers_on_one_rank_are_places.Goals as goal
 
 pub returns : goal.returns

@@ -1,0 +1,7 @@
+use Rattle.std.proofs.Common.{◌≡◌, ◌+ℤ◌, take, map, fold}
+use Rattle.step_defs.specs.Words.{signed_of}
+use Rattle.step_report.proofs.sums.add_signed.Given as goal
+
+-- the words up to here are added
+abbrev pub invariant-loop-word : goal.invariant-loop-word
+invariant-loop-word l = l.sum ≡ fold ◌+ℤ◌ l.fn.sum (map signed_of (take l.word-index l.words))
