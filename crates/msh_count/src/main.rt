@@ -1,9 +1,10 @@
 //! `msh_count FILE` prints how many nodes, elements and physical names a mesh file of the working
 //! folder has, and how many rows each of its data sections has. `msh_count FILE mesh` prints after
-//! that how many vertices, cells and label values its mesh has.
+//! that how many vertices, cells and label values its mesh has; `diagram` in its place goes on with the points and
+//! cone entries of its diagram, and `supports` with how many points all supports have.
 //!
-//! It makes the speed of the reader visible, and of what makes the mesh: the whole file is read, and
-//! its first fault is found.
+//! It makes the speed of the reader visible, of what makes the mesh and its diagram, and of supports: the whole file is
+//! read, and its first fault is found.
 //! Its exit status is that of [`Trouble`], or 0.
 #![tactic(auto)]
 
@@ -12,17 +13,21 @@ ghost use Rattle.msh_count.specs.Statuses.{counts_text};
 
 mod counting;
 mod trouble;
+mod walking;
 
 use counting::{append_mesh, lines};
 use mesh_check::accept;
 use msh_reader::{MshText, read_msh};
 use plex_base::MAX_FILE_BYTES;
+use plex_serial::interpolate;
 use shelf_io::{FolderShelf, OutSink, Shelf, Sink};
+use std::alloc::Global;
 use std::env;
 use std::io::{self, ErrorKind};
 use std::process::ExitCode;
 use std::rt::{Env, Files};
 use trouble::Trouble;
+use walking::{append_diagram, append_supports};
 
 /// Words that can't be read are refused ones.
 fn unread(error: &io::Error) -> Trouble {
@@ -32,24 +37,42 @@ fn unread(error: &io::Error) -> Trouble {
     }
 }
 
-/// What is asked for: a file, and whether its mesh is counted too.
+/// How far a file is taken; each takes it as far as those before, too.
+#[derive(Clone, Copy)]
+enum Depth {
+    Content,
+    Mesh,
+    Diagram,
+    Supports,
+}
+
+/// What is asked for: a file, and how far it is taken.
 #[derive(Drop)]
 struct Request {
     name: String,
-    mesh: bool,
+    depth: Depth,
 }
 
-/// The words after the program's name: a file's, and then `mesh` or nothing.
+/// How far a word asks to go.
+fn depth_of(word: &str) -> Result<Depth, Trouble> {
+    match word {
+        "mesh" => Ok(Depth::Mesh),
+        "diagram" => Ok(Depth::Diagram),
+        "supports" => Ok(Depth::Supports),
+        _ => Err(Trouble::Words),
+    }
+}
+
+/// The words after the program's name: a file's, and then how far it is taken, or nothing.
 fn asked_for<R: Env + AllocGlobal>(rt: &R) -> Result<Request, Trouble> {
     let mut words = env::args(rt).map_err(|e| unread(&e))?.skip(1);
     let name = words.next().ok_or(Trouble::Words)?;
-    let mesh = match words.next() {
-        None => false,
-        Some(word) if word.as_str() == "mesh" => true,
-        Some(_) => return Err(Trouble::Words),
+    let depth = match words.next() {
+        None => Depth::Content,
+        Some(word) => depth_of(word.as_str())?,
     };
     match words.next() {
-        None => Ok(Request { name, mesh }),
+        None => Ok(Request { name, depth }),
         Some(_) => Err(Trouble::Words),
     }
 }
@@ -61,13 +84,34 @@ fn read_file<R: Files + AllocGlobal>(rt: &R, name: &str) -> Result<MshText, Trou
     Ok(read_msh(rt.alloc(), &bytes)?)
 }
 
+/// Appends what is counted of the mesh, and of its diagram where that is asked for.
+fn append_depth(
+    alloc: Global,
+    text: MshText,
+    depth: Depth,
+    lines: &mut Vec<u8>,
+) -> Result<(), Trouble> {
+    if let Depth::Content = depth {
+        return Ok(());
+    }
+    let mesh = accept(alloc, text)?;
+    append_mesh(alloc, &mesh, lines)?;
+    if let Depth::Mesh = depth {
+        return Ok(());
+    }
+    let drawn = interpolate(alloc, &mesh)?;
+    append_diagram(alloc, &drawn.plex, lines)?;
+    if let Depth::Supports = depth {
+        append_supports(alloc, &drawn.plex, lines)?;
+    }
+    Ok(())
+}
+
 fn run<R: Env + Files + Print + AllocGlobal>(rt: &R) -> Result<(), Trouble> {
-    let Request { name, mesh } = asked_for(rt)?;
+    let Request { name, depth } = asked_for(rt)?;
     let text = read_file(rt, name.as_str())?;
     let mut lines = lines(rt.alloc(), &text)?;
-    if mesh {
-        append_mesh(rt.alloc(), &accept(rt.alloc(), text)?, &mut lines)?;
-    }
+    append_depth(rt.alloc(), text, depth, &mut lines)?;
     let mut out = OutSink::new(rt);
     out.write(&lines)?;
     out.flush()?;

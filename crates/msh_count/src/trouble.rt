@@ -2,19 +2,21 @@
 
 ghost use Rattle.std.specs.Prelude.{◌≡◌};
 ghost use Rattle.msh_count.specs.declared.trouble.Trouble.TheVariants.{Write, Memory};
-ghost use Rattle.msh_count.specs.Statuses.{status_of, trouble_of, mesh_trouble, accept_trouble};
+ghost use Rattle.msh_count.specs.Statuses.{status_of, trouble_of, mesh_trouble, accept_trouble, serial_trouble};
 
 use mesh_check::MeshFault;
 use msh_reader::MshFault;
+use plex_base::NoMemory;
+use plex_serial::SerialFault;
 use shelf_io::{Failed, ShelfFault};
 use std::alloc::{AllocError, AllocFailed};
 
 /// Why nothing was counted.
 #[derive(Clone, Copy)]
 pub enum Trouble {
-    /// There is not the name of a file, and after it `mesh` or nothing.
+    /// There is not the name of a file, and after it how far it is taken, or nothing.
     Words,
-    /// The file is no right mesh file, or stands for no mesh.
+    /// The file is no right mesh file, stands for no mesh, or has a twisted face.
     Mesh,
     /// The file could not be read, or has more bytes than the limit.
     Read,
@@ -77,6 +79,25 @@ impl From<MeshFault> for Trouble {
             MeshFault::NoMemory => Trouble::Memory,
             _ => Trouble::Mesh,
         }
+    }
+}
+
+impl From<SerialFault> for Trouble {
+    ghost from_gives = { λ fault trouble. trouble ≡ serial_trouble fault };
+
+    fn from(fault: SerialFault) -> Trouble {
+        match fault {
+            SerialFault::NoMemory => Trouble::Memory,
+            SerialFault::Twist(_) => Trouble::Mesh,
+        }
+    }
+}
+
+impl From<NoMemory> for Trouble {
+    ghost from_gives = { λ _ trouble. trouble ≡ Memory };
+
+    fn from(_: NoMemory) -> Trouble {
+        Trouble::Memory
     }
 }
 
