@@ -1,0 +1,4 @@
+pub mod Vertices
+pub mod Parts
+pub mod Asking
+pub mod Owners
