@@ -1,0 +1,5 @@
+pub mod Lists
+pub mod Homes
+pub mod Copies
+pub mod Meeting
+pub mod Joined
