@@ -1,0 +1,4 @@
+pub mod Numbered
+pub mod OneRound
+pub mod KeysBack
+mod HomeRows
