@@ -23,7 +23,7 @@ use Rattle.slot_defs.specs.Slots.{own_drawn_at}
 use Rattle.sf_ops.specs.Asked.{first_word, word_of, ask_of, own_asks, asks_of}
 use Rattle.sf_ops.proofs.Words.{first_word-more}
 use Rattle.sf_ops.proofs.Conditions.{word-within}
-use Rattle.sf_slots.specs.Ones.{AreOnes}
+use Rattle.sf_slots.specs.Ones.{AreOnes, AddsOne}
 use Rattle.sf_slots.proofs.Counted.{one_if, count-cons}
 
 -- ---- words of roots
@@ -107,40 +107,36 @@ asks-count roots op values rank index in-ranks in-roots n (ls ∷ lss) h =
     let c = sum_by-cons (count_by (is_on_root (rank, index))) ls lss in
     omega arith
 
--- all asks are Sums of 1
-abbrev pub IsOne : Ask → Type 0
-IsOne a = (a.op ≡ Sum) × (a.value ≡ 1)
-
 -- each leaf of the ranks from n on has the value 1
 abbrev pub OnesFrom : List (List ℕ) → ℕ → List (List Leaf) → Type 0
 OnesFrom values n [] = Unit {0}
 OnesFrom values n (ls ∷ lss) = AreOnes (get_or values n []) ls × OnesFrom values (n + 1) lss
 
-own_asks-ones : (roots values : List ℕ) (p : Ask → Bool) (ls : List Leaf) → AreOnes values ls → AllByRecursion IsOne (filter p (own_asks roots Sum values ls))
+own_asks-ones : (roots values : List ℕ) (p : Ask → Bool) (ls : List Leaf) → AreOnes values ls → AllByRecursion AddsOne (filter p (own_asks roots Sum values ls))
 own_asks-ones roots values p [] h = tt
 own_asks-ones roots values p (l ∷ ls) h = go (p (ask_of roots Sum values l)) (own_asks-ones roots values p ls h.1)
   where
     rest : List Ask
     rest = filter p (own_asks roots Sum values ls)
 
-    go : (b : Bool) → AllByRecursion IsOne rest → AllByRecursion IsOne (cond b (ask_of roots Sum values l ∷ rest) rest)
+    go : (b : Bool) → AllByRecursion AddsOne rest → AllByRecursion AddsOne (cond b (ask_of roots Sum values l ∷ rest) rest)
     go true r = ((refl, h.0.1), r)
     go false r = r
 
-pub asks-ones : (roots : List ℕ) (values : List (List ℕ)) (p : Ask → Bool) (n : ℕ) (lss : List (List Leaf)) → OnesFrom values n lss → AllByRecursion IsOne (filter p (all_asks (asks_from roots Sum values n lss)))
+pub asks-ones : (roots : List ℕ) (values : List (List ℕ)) (p : Ask → Bool) (n : ℕ) (lss : List (List Leaf)) → OnesFrom values n lss → AllByRecursion AddsOne (filter p (all_asks (asks_from roots Sum values n lss)))
 asks-ones roots values p n [] h = tt
 asks-ones roots values p n (ls ∷ lss) h =
     let own : List Ask = own_asks roots Sum (get_or values n []) ls in
-    subst (AllByRecursion IsOne) (sym (filter-append p own (all_asks (asks_from roots Sum values (n + 1) lss))))
-    (all_append IsOne (filter p own) (filter p (all_asks (asks_from roots Sum values (n + 1) lss))) (own_asks-ones roots (get_or values n []) p ls h.0) (asks-ones roots values p (n + 1) lss h.1))
+    subst (AllByRecursion AddsOne) (sym (filter-append p own (all_asks (asks_from roots Sum values (n + 1) lss))))
+    (all_append AddsOne (filter p own) (filter p (all_asks (asks_from roots Sum values (n + 1) lss))) (own_asks-ones roots (get_or values n []) p ls h.0) (asks-ones roots values p (n + 1) lss h.1))
 
 -- Sums of 1 are Sums
-pub ones-kind : (asks : List Ask) → 0 < length asks → AllByRecursion IsOne asks → kind_of asks ≡ Sum
+pub ones-kind : (asks : List Ask) → 0 < length asks → AllByRecursion AddsOne asks → kind_of asks ≡ Sum
 ones-kind [] some h = absurd (omega arith)
 ones-kind (a ∷ asks) some h = ap (λ (op : Op). kind_of (record { word = a.word; op = op; value = a.value } ∷ asks)) h.0.0
 
 -- and add as much as they are
-pub ones-after : (word : ℕ) (asks : List Ask) → AllByRecursion IsOne asks → word + length asks < 2 ^ 64 → word_after word asks ≡ word + length asks
+pub ones-after : (word : ℕ) (asks : List Ask) → AllByRecursion AddsOne asks → word + length asks < 2 ^ 64 → word_after word asks ≡ word + length asks
 unfolding step
 ones-after word [] h fits = omega arith
 ones-after word (a ∷ asks) h fits =
@@ -153,7 +149,7 @@ ones-after word (a ∷ asks) h fits =
 -- ---- what was fetched
 
 -- the ask of a leaf with 1 took number n where it fetched n
-took-one : (a : Ask) (rank index g n : ℕ) → IsOne a → took n (record { rank = rank; index = index; ask = a; got = g }) ≡ (g == n)
+pub took-one : (a : Ask) (rank index g n : ℕ) → AddsOne a → took n (record { rank = rank; index = index; ask = a; got = g }) ≡ (g == n)
 took-one a rank index g n h = ap (λ (op : Op). took n (record { rank = rank; index = index; ask = record { word = a.word; op = op; value = a.value }; got = g })) h.0
     ∙ (ap (λ v. nat_le g n && nat_lt n (g + v)) h.1 ∙ same_tests (nat_le g n && nat_lt n (g + 1)) (g == n) (λ e. eq-eqb g n (between e)) (λ e. let same = eqb-true g n e in (λ i. le-leb g n (omega arith) i && lt-ltb n (g + 1) (omega arith) i)))
   where

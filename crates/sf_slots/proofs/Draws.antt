@@ -27,9 +27,9 @@ use Rattle.std.specs.declared.alloc.Global.{Global}
 use Rattle.plain_lists.specs.Vectors.{lists_of}
 use Rattle.sf_ops.proofs.Words.{first_word-within, length-words_of, lists_of-push, length-lists_of}
 use Rattle.sf_ops.proofs.Conditions.{leaves_have_roots}
-use Rattle.sf_slots.specs.Ones.{AreOnes}
+use Rattle.sf_slots.specs.Ones.{AreOnes, AddsOne}
 use Rattle.sf_slots.proofs.Counted.{one_if, count-cons, all-below}
-use Rattle.sf_slots.proofs.Drawn.{Rooted, asks_from, asks-as, asks-count, asks-ones, IsOne, OnesFrom, ones-kind, ones-after, took-all, drawn-length}
+use Rattle.sf_slots.proofs.Drawn.{Rooted, asks_from, asks-as, asks-count, asks-ones, OnesFrom, ones-kind, ones-after, took-all, drawn-length}
 
 -- ---- words that are 0
 
@@ -83,10 +83,10 @@ ones-more values own lss n reach size is reaches so_far k h = subst (λ (vs : Li
 -- ---- asking
 
 -- all ask for 1
-all-ones : (f : Forest) (values : List (List ℕ)) → OnesFrom values 0 f.leaves → AllByRecursion IsOne (all_asks (asks_of f Sum values))
+all-ones : (f : Forest) (values : List (List ℕ)) → OnesFrom values 0 f.leaves → AllByRecursion AddsOne (all_asks (asks_of f Sum values))
 all-ones f values ones =
     let all : List Ask = all_asks (asks_from f.roots Sum values 0 f.leaves) in
-    subst (λ asks. AllByRecursion IsOne (all_asks asks)) (sym (asks-as f Sum values)) (subst (AllByRecursion IsOne) (filter_whole (λ (a : Ask). true) all (all_from (λ (a : Ask). true ≡ true) (λ a. refl) all)) (asks-ones f.roots values (λ a. true) 0 f.leaves ones))
+    subst (λ asks. AllByRecursion AddsOne (all_asks asks)) (sym (asks-as f Sum values)) (subst (AllByRecursion AddsOne) (filter_whole (λ (a : Ask). true) all (all_from (λ (a : Ask). true ≡ true) (λ a. refl) all)) (asks-ones f.roots values (λ a. true) 0 f.leaves ones))
 
 -- as many asks as leaves
 all-length : (roots : List ℕ) (op : Op) (values : List (List ℕ)) (n : ℕ) (lss : List (List Leaf)) → length (all_asks (asks_from roots op values n lss)) ≡ sum_by length lss
@@ -99,7 +99,7 @@ all-length roots op values n (ls ∷ lss) =
     omega arith
 
 -- ones add up to their number
-ones-added : (asks : List Ask) → AllByRecursion IsOne asks → sum_by added asks ≡ length asks
+pub ones-added : (asks : List Ask) → AllByRecursion AddsOne asks → sum_by added asks ≡ length asks
 ones-added [] h = refl
 ones-added (a ∷ asks) h =
     let one : added a ≡ 1 = ap (λ (op : Op). added record { word = a.word; op = op; value = a.value }) h.0.0 ∙ h.0.1 in
@@ -110,8 +110,8 @@ ones-added (a ∷ asks) h =
 -- Sums of 1 on words that are 0 may be asked
 pub ones-may : (f : Forest) (values : List (List ℕ)) → IsForRanks f → OnesFrom values 0 f.leaves → MayAsk f Sum values (zeros_for f.roots)
 ones-may f values ranks ones = record {
-  plain_loads = all_weaker IsOne (λ (a : Ask). a.op ≡ Load → a.value ≡ 0) (λ a one load. absurd (apart (sym one.0 ∙ load))) (all_asks (asks_of f Sum values)) all;
-  one_replace = λ w h. let none : count_by (λ (a : Ask). same_op a.op Replace) (asks_on w (asks_of f Sum values)) ≡ 0 = count_nothing (λ (a : Ask). same_op a.op Replace) (asks_on w (asks_of f Sum values)) (all_weaker IsOne (λ (a : Ask). same_op a.op Replace ≡ false) (λ a one. ap (λ (op : Op). same_op op Replace) one.0) (asks_on w (asks_of f Sum values)) (on w)) in omega arith;
+  plain_loads = all_weaker AddsOne (λ (a : Ask). a.op ≡ Load → a.value ≡ 0) (λ a one load. absurd (apart (sym one.0 ∙ load))) (all_asks (asks_of f Sum values)) all;
+  one_replace = λ w h. let none : count_by (λ (a : Ask). same_op a.op Replace) (asks_on w (asks_of f Sum values)) ≡ 0 = count_nothing (λ (a : Ask). same_op a.op Replace) (asks_on w (asks_of f Sum values)) (all_weaker AddsOne (λ (a : Ask). same_op a.op Replace ≡ false) (λ a one. ap (λ (op : Op). same_op op Replace) one.0) (asks_on w (asks_of f Sum values)) (on w)) in omega arith;
   sums_fit = λ w h.
       let zero_word = zero-words f.roots w in
       let sums = ones-added (asks_on w (asks_of f Sum values)) (on w) in
@@ -125,11 +125,11 @@ ones-may f values ranks ones = record {
     apart : Sum ≡ Load → ⊥
     apart e = cc e
 
-    all : AllByRecursion IsOne (all_asks (asks_of f Sum values))
+    all : AllByRecursion AddsOne (all_asks (asks_of f Sum values))
     all = all-ones f values ones
 
-    on : (w : ℕ) → AllByRecursion IsOne (asks_on w (asks_of f Sum values))
-    on w = all_filter IsOne (λ (a : Ask). a.word == w) (all_asks (asks_of f Sum values)) all
+    on : (w : ℕ) → AllByRecursion AddsOne (asks_on w (asks_of f Sum values))
+    on w = all_filter AddsOne (λ (a : Ask). a.word == w) (all_asks (asks_of f Sum values)) all
 
 -- ---- drawing
 
@@ -139,7 +139,7 @@ asks-shape roots op values n [] = refl
 asks-shape roots op values n (ls ∷ lss) = λ i. length-map ls (ask_of roots op (get_or values n [])) i ∷ asks-shape roots op values (n + 1) lss i
 
 -- a root with a leaf is there
-rank_of_root : (roots : List ℕ) (rank index : ℕ) → index < get_or roots rank 0 → rank < length roots
+pub rank_of_root : (roots : List ℕ) (rank index : ℕ) → index < get_or roots rank 0 → rank < length roots
 rank_of_root [] rank index h = absurd (omega arith)
 rank_of_root (n ∷ ns) zero index h = omega arith
 rank_of_root (n ∷ ns) (suc rank) index h = let r = rank_of_root ns rank index h in omega arith

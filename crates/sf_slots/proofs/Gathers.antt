@@ -187,7 +187,7 @@ word_value (v ∷ vs) (suc rank) index h = ap (λ (n : ℕ). get_or (v ++ words_
     after : (xs ys : List ℕ) (n i : ℕ) → get_or (xs ++ ys) (length xs + n + i) 0 ≡ get_or ys (n + i) 0
     after xs ys n i = grind (arith, common_steps)
 
-gathered-shape : (m : Forest) (values : List (List ℕ)) → map length (gathered m values) ≡ m.roots
+pub gathered-shape : (m : Forest) (values : List (List ℕ)) → map length (gathered m values) ≡ m.roots
 unfolding gathered
 gathered-shape m values = go 0 m.roots
   where
@@ -195,7 +195,7 @@ gathered-shape m values = go 0 m.roots
     go n [] = refl
     go n (k ∷ ms) = λ j. (length-map (below k) (λ i. value_or values 0 (leaf_of m n i)) ∙ length-below k) j ∷ go (n + 1) ms j
 
-gathered-at : (m : Forest) (values : List (List ℕ)) (rank index : ℕ) → rank < length m.roots → index < roots_on m rank → get_or (get_or (gathered m values) rank []) index 0 ≡ value_or values 0 (leaf_of m rank index)
+pub gathered-at : (m : Forest) (values : List (List ℕ)) (rank index : ℕ) → rank < length m.roots → index < roots_on m rank → get_or (get_or (gathered m values) rank []) index 0 ≡ value_or values 0 (leaf_of m rank index)
 unfolding gathered
 gathered-at m values rank index in-ranks in-roots = ap (λ (l : List ℕ). get_or l index 0) (numbered-at (λ (r : ℕ × ℕ). map (λ i. value_or values 0 (leaf_of m r.0 i)) (below r.1)) 0 m.roots rank 0 [] in-ranks) ∙ (ap (λ n. get_or (map (λ i. value_or values 0 (leaf_of m n i)) (below (roots_on m rank))) index 0) zeros ∙ get_or-map-below (λ i. value_or values 0 (leaf_of m rank i)) (roots_on m rank) index 0 in-roots)
   where

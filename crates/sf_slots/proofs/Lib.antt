@@ -6,3 +6,4 @@ mod Draws
 mod Lone
 mod Listing
 mod Gathers
+mod Consequences

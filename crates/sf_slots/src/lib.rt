@@ -3,11 +3,13 @@
 #![tactic(auto)]
 
 mod drawing;
+mod laws;
 mod making;
 mod moving;
 mod slots;
 mod values;
 
 pub use drawing::multi;
+pub use laws::{gathered_words_come_back, sums_of_one_draw_each_number_once};
 pub use moving::{gather, scatter};
 pub use slots::SlotForest;

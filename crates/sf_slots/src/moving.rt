@@ -24,6 +24,7 @@ pub fn gather<F: Fabric>(
 ) -> Result<Vec<Vec<u64>>, NoMemory>
     requires { CoverLeaves m.now.forest (lists_of leaves.now) }
     ensures gathered { IfOk result (λ slots. lists_of slots.items ≡ gathered m.now.forest (lists_of leaves.now)) }
+    ensures slots { IfOk result (λ slots. AreRootValues m.now.forest (lists_of slots.items)) }
     ensures kept { F.kept fabric.new ≡ F.kept fabric.old }
 {
     let mut slots = zeros(alloc, m.forest())?;

@@ -7,7 +7,7 @@ use Rattle.sf_ops.specs.Asked.{asks_of, words_of, MayAsk}
 use Rattle.sf_ops.specs.Folds.{AreFolds}
 use Rattle.sf_ops.proofs.Words.{length-lists_of}
 use Rattle.sf_slots.proofs.Draws.{zeros_for, zeros-shape}
-use Rattle.sf_slots.proofs.Gathers.{gathers-may, gathers, written-back}
+use Rattle.sf_slots.proofs.Gathers.{gathered-shape, gathers-may, gathers, written-back}
 use Rattle.sf_slots.proofs.moving.gather.Goals as goal
 
 pub reduce-requires-clause-roots : goal.reduce-requires-clause-roots
@@ -33,3 +33,6 @@ returns-clause-gathered g c =
     let back = written-back c.reduce.new.roots c.in_ok-slots.slots.items c.in_ok-slots.slots.len same (sym (ap length c.deref_mut.ensures.value) ∙ c.deref_mut.ensures.len) in
     let folds = subst (λ (f : Forest). AreFolds (asks_of f Replace leaves) (words_of (lists_of c.deref_mut.result.now)) (words_of (lists_of c.reduce.new.roots))) c.forest-2.ensures.forest c.in_ok-reduce.ensures.folds in
     ap (λ vs. lists_of vs) back ∙ gathers m leaves (lists_of c.reduce.new.roots) (lists_of c.deref_mut.result.now) right c.forest-2.ensures.alone zeros shape folds
+
+pub returns-clause-slots : goal.returns-clause-slots
+returns-clause-slots g c = ap (map length) (returns-clause-gathered g c) ∙ gathered-shape c.args.m.now.forest (lists_of c.args.leaves.now)
