@@ -13,10 +13,15 @@ def check_counts(text, findings):
         elif check_ranks(text, step, findings):
             check_total(text, step, findings)
             check_kept(step, before, findings)
+        findings.unless(shown(step) == shown(text.steps[0]), step.line, "this step does not show what the first one does")
+        findings.unless(step.layers is not None or bool(step.words) == bool(text.steps[0].words), step.line,
+                        "only some parts show their rounds")
         before = step
-    if text.steps:
-        summary = [bool(step.sums) for step in text.steps]
-        findings.unless(len(set(summary)) == 1, text.steps[0].line, "only some steps are summaries")
+
+
+def shown(step):
+    """Which kinds of lines a step has, of those that each step of a run has or none."""
+    return [bool(kind) for kind in (step.sums, step.points, step.copies, step.closures, step.traces)]
 
 
 def check_ranks(text, step, findings):

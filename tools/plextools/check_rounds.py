@@ -11,8 +11,11 @@ def check_words(text, step, whole, findings):
                     "a part has one number round, after its home words, and layers have none")
     home = [word for word in step.words if word.round == "home"]
     findings.unless(not home or step.place == 0, step.words[0].line, "the home round is not of the first part")
-    for word in home:
+    for place, word in enumerate(home):
         check_order(word, min, findings)
+        ranks = {turn[0] for turn in word.turns}
+        findings.unless(word.word == place and len(ranks) == len(word.turns) and max(ranks) < text.ranks, word.line,
+                        "words count from 0, and a rank asks once of each")
     for word in numbers:
         check_order(word, int.__add__, findings)
         wanted = [(r.rank, r.owned, r.base) for r in step.ranks]
@@ -86,6 +89,10 @@ class Traces:
         line = step.traces[0][0]
         numbers = [r.base + place for r in step.ranks for place in range(r.owned)]
         findings.unless([trace[1] for trace in step.traces] == numbers, line, "the traces are not of each rank's points in order")
+        if step.place == 0:
+            places = [(r.rank, r.held) for r in step.ranks for _ in range(r.owned)]
+            findings.unless(all(trace[2] == rank and trace[3] < held for trace, (rank, held) in zip(step.traces, places)), line,
+                            "under the first part a point is at its owner")
         pairs = {trace[2:] for trace in step.traces}
         self.pairs = self.pairs or pairs
         findings.unless(len(pairs) == len(numbers) and pairs == self.pairs, line,
@@ -102,4 +109,3 @@ class Traces:
             first = self.tags.setdefault(tag, (rank, local))
             findings.unless(first == (rank, local), line, f"{tag} had the trace {first[0]} {first[1]} in an earlier step")
             findings.unless(self.first.get((rank, local), tag) == tag, line, f"under the first part {tag} was not there")
-            findings.unless(step.place or whole.owner.get(tag) == rank, line, f"in the first step {tag} is not of rank {rank}")

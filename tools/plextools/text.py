@@ -168,8 +168,10 @@ def may_follow(before, kind):
         return kind == "part"
     if before in STEPS:
         return kind in ("rank", "sum")
+    if before in ("rank", "ghost"):
+        return kind in ("rank", "ghost", "total") and (before, kind) != ("ghost", "rank")
     if kind in STEPS or kind == "end":
-        return before not in ("rank", "ghost")
+        return True
     return before in OF_STEP and kind in OF_STEP[OF_STEP.index(before) + (before in ONCE):]
 
 
@@ -241,6 +243,8 @@ class Reader:
         self.text.names.append((int(dim), int(number), text))
 
     def take_data(self, place, on, comps, name):
+        if comps not in ("1", "3", "9"):
+            raise TextFault(self.line, "data has 1, 3 or 9 components")
         self.section(place, Section(on, name, (int(comps),)))
 
     def take_dofs(self, place, name, *counts):

@@ -1,5 +1,6 @@
 """All points of a step by their tags, from its P lines and its L lines, where all copies have to agree."""
 from dataclasses import dataclass
+from itertools import islice
 
 from .shapes import Diagram, Unclosed, dimension_of
 
@@ -54,10 +55,8 @@ def gather(points, said, tags, findings):
 def owned_tags(text, step):
     """For each rank the tags of its owned points in order, from P lines where they are there, else from L lines."""
     if step.points:
-        tags, found = iter(point.tag for point in step.points), []
-        for r in step.ranks:
-            found.append([tag for tag, _ in zip(tags, range(r.owned))])
-        return found
+        tags = iter([point.tag for point in step.points])
+        return [list(islice(tags, r.owned)) for r in step.ranks]
     return [[one.tag for one in step.copies if one.rank == one.owner == rank] for rank in range(text.ranks)]
 
 
@@ -106,16 +105,13 @@ def check_points(text, step, whole, findings):
 
 
 def check_cones(whole, findings):
-    """Every cone closes; answers whether all of them do."""
-    closed = True
+    """Every cone closes."""
     for tag, known in whole.points.items():
         try:
             whole.diagram.corners(tag)
         except Unclosed as why:
             findings.fault(known.line, f"the cone of {tag} does not close: {why}")
-            closed = False
     findings.checked("cones", len(whole.points))
-    return closed
 
 
 def check_keys(whole, findings):
