@@ -14,9 +14,10 @@ OPENING = '<?xml version="1.0"?>\n<VTKFile type="{}" version="1.0" byte_order="L
 
 
 def attributes(array):
-    """The head of an array; a name that XML cannot hold has question marks."""
+    """The head of an array; a name that XML cannot hold has question marks, and one component needs no count."""
     name = "".join(letter if letter.isprintable() and not "\ud800" <= letter <= "\udfff" else "?" for letter in array.name)
-    return f'type="{array.type}" Name="{escape(name)}" NumberOfComponents="{array.comps}"'
+    comps = f' NumberOfComponents="{array.comps}"' if array.comps > 1 else ""
+    return f'type="{array.type}" Name="{escape(name)}"{comps}'
 
 
 def data(array):

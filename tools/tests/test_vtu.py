@@ -24,7 +24,7 @@ def values(array):
     (length,) = unpack("<Q", raw[:8])
     assert length == len(raw) - 8
     flat = unpack(f"<{length // size}{code}", raw[8:])
-    comps = int(array.get("NumberOfComponents"))
+    comps = int(array.get("NumberOfComponents", 1))
     return [flat[k:k + comps] for k in range(0, len(flat), comps)]
 
 
