@@ -63,14 +63,18 @@ def check_home(home, line, whole, findings):
 
 
 def check_closures(step, whole, findings):
-    """The closure of each owned cell, rank by rank, is all that its cone reaches, level by level."""
-    cells = [tag for tag in whole.number if tag[0] == "c"]
-    if not findings.unless([number for _, number, _ in step.closures] == [whole.number[cell] for cell in cells],
-                           step.closures[0][0], "the closures are not those of each rank's cells"):
+    """One closure for each rank's cells, which are the first of its points: all that the cone reaches, level by level."""
+    numbers = [r.base + place for r in step.ranks for place in range(r.cells)]
+    if not findings.unless([number for _, number, _ in step.closures] == numbers, step.closures[0][0],
+                           "the closures are not those of each rank's cells"):
         return
-    for cell, (line, _, entries) in zip(cells, step.closures):
-        wanted = [(whole.number.get(tag), o) for tag, o in whole.diagram.closure(cell)]
-        findings.unless(entries == wanted, line, f"this is not the closure of {cell}")
+    tags = {number: tag for tag, number in whole.number.items()} if whole else {}
+    for line, number, entries in step.closures:
+        reached = {point for point, _ in entries}
+        findings.unless(entries[0] == (number, 0) and len(reached) == len(entries) and max(reached) < step.total[0], line,
+                        "a closure begins with its cell and has different points")
+        wanted = [(whole.number.get(tag), o) for tag, o in whole.diagram.closure(tags[number])] if whole else entries
+        findings.unless(entries == wanted, line, f"this is not the closure of {tags.get(number)}")
         findings.checked("closures")
 
 

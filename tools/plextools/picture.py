@@ -54,6 +54,7 @@ class Picture:
 
     @staticmethod
     def distance(a, b):
+        """How far two places are apart."""
         return ((a[0] - b[0]) ** 2 + (a[1] - b[1]) ** 2) ** 0.5
 
     def ends(self, edge):

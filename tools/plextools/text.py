@@ -124,6 +124,7 @@ PARTS = {
     "x": r"((?!-0$)(?!-0 )-?(?:0|[1-9][0-9]*)(?:\.[0-9]*[1-9])?)",
     "tag": "([cvfe](?:0|[1-9][0-9]*))",
     "words": "((?: [^ ]+)*)",
+    "some": "((?: [^ ]+)+)",
 }
 LINES = {
     "mesh": "mesh dim %(n)s cells %(n)s vertices %(n)s unused %(n)s loose %(n)s merged %(n)s",
@@ -139,9 +140,9 @@ LINES = {
     "total": "total %(n)s cells %(n)s vertices %(n)s faces %(n)s edges %(n)s",
     "point": "P %(n)s %(tag)s%(words)s",
     "copy": "L %(n)s %(n)s %(tag)s %(n)s %(n)s%(words)s",
-    "closure": "C %(n)s%(words)s",
+    "closure": "C %(n)s%(some)s",
     "trace": "T %(n)s %(n)s %(n)s",
-    "word": "W (home|number) %(n)s %(n)s %(n)s%(words)s",
+    "word": "W (home|number) %(n)s %(n)s %(n)s%(some)s",
     "end": "end",
 }
 FORMS = {kind: re.compile(line % PARTS, re.DOTALL) for kind, line in LINES.items()}
@@ -209,7 +210,7 @@ def tail(words, line):
 
 
 class Reader:
-    """Takes line after line, in order, and keeps what they say."""
+    """Takes line after line, in order, and keeps what they say: `take_KIND` has the words of a line of that kind."""
 
     def __init__(self):
         self.text, self.line, self.before = Text(), 0, None
@@ -228,10 +229,12 @@ class Reader:
         raise TextFault(self.line, f"no line of the text: {line[:60]}")
 
     def numbers(self, *words):
+        """Words of digits as numbers."""
         return [int(word) for word in words]
 
     @property
     def step(self):
+        """The step of which lines are read."""
         return self.text.steps[-1]
 
     def take_mesh(self, dim, cells, vertices, *_counts):
@@ -251,6 +254,7 @@ class Reader:
         self.section(place, Section("dofs", name, tuple(self.numbers(*counts))))
 
     def section(self, place, section):
+        """One more field, which has the next place."""
         if int(place) != len(self.text.sections):
             raise TextFault(self.line, "fields are not numbered in order")
         self.text.sections.append(section)

@@ -49,6 +49,7 @@ def vtu(piece):
 def pvtu(piece, names, layers):
     """The .pvtu file of pieces with these file names, which have the arrays of this one."""
     def head(array):
+        """An array without values."""
         return f"<PDataArray {attributes(array)}/>"
     return "\n".join([
         OPENING.format("PUnstructuredGrid"), f'<PUnstructuredGrid GhostLevel="{layers}">',

@@ -4,7 +4,6 @@ import random
 from meshes import UNIT, Mesh, grid, plain
 from printed import read_plan
 
-ONE_TRIANGLE = plain(2, [(0, 0), (1, 0), (0, 1)], [(0, 1, 2)])
 TWO_TRIANGLES = plain(2, [(0, 0), (1, 0), (0, 1), (1, 1)], [(0, 1, 2), (1, 3, 2)])
 AROUND_A_VERTEX = plain(2, [(0, 0), (1, 0), (0, 1), (-1, 0), (0, -1)], [(0, 1, 2), (0, 2, 3), (0, 3, 4), (0, 4, 1)])
 STRIP = plain(2, [(x, y) for y in (0, 1) for x in range(9)], [(x, x + 1, x + 10, x + 9) for x in range(8)])
