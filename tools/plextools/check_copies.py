@@ -1,13 +1,14 @@
 """Checks of L lines: what each rank holds, who owns it, and where the owner has it."""
-from .whole import owned_tags, place_in_chart
+from .whole import held_by_rank, owned_tags, place_in_chart
 
 
 def check_copies(text, step, layers, whole, findings):
     """All L lines of a step after so many layers."""
-    held = [[] for _ in range(text.ranks)]
     for one in step.copies:
-        if findings.unless(max(one.rank, one.owner) < text.ranks, one.line, "there is no such rank"):
-            held[one.rank].append(one)
+        findings.unless(max(one.rank, one.owner) < text.ranks, one.line, "there is no such rank")
+    if findings.faults:
+        return
+    held = held_by_rank(text, step)
     for r, copies in zip(step.ranks, held):
         check_chart(r, copies, findings)
         check_roots(r.rank, held, findings)

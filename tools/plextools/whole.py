@@ -2,6 +2,8 @@
 from dataclasses import dataclass
 from itertools import islice
 
+from .check_counts import check_counts
+from .findings import Findings
 from .shapes import Diagram, Unclosed, dimension_of
 
 STRATA = "cvfe"
@@ -52,12 +54,21 @@ def gather(points, said, tags, findings):
             findings.unless(first.said == known.said, one.line, f"{one.tag} is not as on line {first.line}")
 
 
+def held_by_rank(text, step):
+    """The L lines of each rank, in their order. Those of a rank that there is not are left out."""
+    held = [[] for _ in range(text.ranks)]
+    for one in step.copies:
+        if one.rank < text.ranks:
+            held[one.rank].append(one)
+    return held
+
+
 def owned_tags(text, step):
     """For each rank the tags of its owned points in order, from P lines where they are there, else from L lines."""
     if step.points:
         tags = iter([point.tag for point in step.points])
         return [list(islice(tags, r.owned)) for r in step.ranks]
-    return [[one.tag for one in step.copies if one.rank == one.owner == rank] for rank in range(text.ranks)]
+    return [[one.tag for one in copies if one.owner == one.rank] for copies in held_by_rank(text, step)]
 
 
 def check_numbers(text, step, findings):
@@ -81,8 +92,7 @@ def whole_of(text, step, findings):
     if step.points:
         check_numbers(text, step, findings)
         gather(points, step.points, {point.number: point.tag for point in step.points}, findings)
-    for rank in range(text.ranks):
-        held = [one for one in step.copies if one.rank == rank]
+    for held in held_by_rank(text, step):
         gather(points, held, {one.local: one.tag for one in held}, findings)
     owner, number = {}, {}
     for r, tags in zip(step.ranks, owned_tags(text, step)):
@@ -128,3 +138,14 @@ def check_keys(whole, findings):
             findings.checked("keys")
     for tag in wanted.keys() - whole.points.keys():
         findings.fault(1, f"cells have {tag}, which is not shown")
+
+
+def checked_whole(text, step):
+    """What a step shows, with the faults that keep it from being drawn or written: counts, owners, cones."""
+    findings = Findings()
+    check_counts(text, findings)
+    whole = None if findings.faults else whole_of(text, step, findings)
+    if whole:
+        check_points(text, step, whole, findings)
+        check_cones(whole, findings)
+    return whole, findings
