@@ -189,7 +189,8 @@ class Picture:
         a, b = self.ends(edge)
         along = 0.25 if len(centres) > 1 else 0.5
         x, y = (p + along * (q - p) for p, q in zip(a, b))
-        normal = (a[1] - b[1]) / self.distance(a, b), (b[0] - a[0]) / self.distance(a, b)
+        length = self.distance(a, b) or 1
+        normal = (a[1] - b[1]) / length, (b[0] - a[0]) / length
         inward = centres and (centres[0][0] - x) * normal[0] + (centres[0][1] - y) * normal[1] > 0
         side = -1 if inward else 1
         return x + side * normal[0] * self.font * (0.3 + 0.27 * letters), y + side * normal[1] * self.font

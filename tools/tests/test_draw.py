@@ -85,6 +85,11 @@ class Draw(unittest.TestCase):
         picture = Picture(text_of(dressed(TWO_TRIANGLES), "ranks 1 / part block / show points"))
         self.assertTrue({'cells 3 "<left>", 7', 'cells without a label', 'edges 5 "a "rim""', 'vertices -2'} <= set(picture.texts))
 
+    def test_plane_in_which_edges_have_no_length(self):
+        text = text_of(TWO_TRIANGLES, "ranks 1 / part block / show points")
+        heights = {circle["cy"] for circle in Picture(text, "--plane", "xz").circles}
+        self.assertEqual(len(heights), 1)
+
     def test_what_cannot_be_drawn(self):
         flat = text_of(TWO_TRIANGLES, "ranks 2 / part 0 1 / show points")
         for text, words, said in ((text_of(grid("hex", 1), "ranks 1 / part block / show points"), (), "dimension 3"),
