@@ -35,7 +35,7 @@ nothing-added [] all = refl
 nothing-added (a ∷ asks) all = sum_by-cons added a asks ∙ ap₂ (λ op n. cond (same_op op Sum) a.value 0 + n) all.0 (nothing-added asks all.1)
 
 -- they suit a word with a small first value
-mins-suit : (first : ℕ) (asks : List Ask) → first < 2 ^ 64 → AllByRecursion IsMin asks → SuitsWord first asks
+pub mins-suit : (first : ℕ) (asks : List Ask) → first < 2 ^ 64 → AllByRecursion IsMin asks → SuitsWord first asks
 mins-suit first asks low all = record {
   one_kind = kinds-one asks all;
   one_replace = let none = count_nothing (λ (a : Ask). same_op a.op Replace) asks (all_weaker IsMin (λ (a : Ask). same_op a.op Replace ≡ false) (λ a is. ap (λ op. same_op op Replace) is) asks all) in omega (arith, none);
