@@ -6,10 +6,11 @@
 #![tactic(auto)]
 
 mod fabric;
+mod flat;
 mod lists;
 mod round;
 
 pub use fabric::Fabric;
-pub use lists::Lists;
+pub use flat::FlatLists;
 pub use round::Round;
 pub use sf_defs::{Ask, Op, Tag, Turn};

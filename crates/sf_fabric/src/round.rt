@@ -3,6 +3,7 @@ ghost use Rattle.std.specs.Prelude.{◌≡◌, ◌<◌, ◌↔◌, [], length, g
 ghost use Rattle.plain_lists.specs.Vectors.{lists_of};
 ghost use Rattle.sf_fabric.specs.Complete.{IsComplete};
 
+use crate::flat::FlatLists;
 use crate::lists::Lists;
 use plex_base::NoMemory;
 use sf_defs::{Ask, Tag, Turn};
@@ -26,13 +27,15 @@ impl Model for Round {
 
     ghost Value = { Record };
 
+    ghost use Rattle.sf_fabric.specs.Stored.{lists_in};
+
     ghost view = { λ r. record {
       tag = r.tag;
       before = r.before.items;
-      asks = r.asks;
-      got = r.got;
+      asks = lists_in r.asks;
+      got = lists_in r.got;
       after = r.after.items;
-      order = r.order;
+      order = lists_in r.order;
     } };
 }
 
@@ -50,32 +53,35 @@ impl Round {
     ) -> Round
         ensures { result ≡ record { tag = tag; before = before.items; asks = lists_of asks.items; got = lists_of got.items; after = after.items; order = lists_of order.items } }
     {
-        let (asks, got, order) = (
-            Lists::nested(asks),
-            Lists::nested(got),
-            Lists::nested(order),
-        );
-        Round::of_lists(tag, before, asks, got, after, order)
+        Round {
+            tag,
+            before,
+            asks: Lists::Nested(asks),
+            got: Lists::Nested(got),
+            after,
+            order: Lists::Nested(order),
+        }
     }
 
-    /// The same from lists that may lie flat, so that a round of many words needs no vector for each.
-    pub fn of_lists(
+    /// The same from lists that lie flat, so that a round of many words needs no vector for each: the
+    /// asks of all ranks are one vector, what they fetched is one, and the orders of all words are one.
+    pub fn flat(
         tag: Tag,
         before: Vec<u64>,
-        asks: Lists<Ask>,
-        got: Lists<u64>,
+        asks: FlatLists<Ask>,
+        got: FlatLists<u64>,
         after: Vec<u64>,
-        order: Lists<Turn>,
+        order: FlatLists<Turn>,
     ) -> Round
         ensures { result ≡ record { tag = tag; before = before.items; asks = asks; got = got; after = after.items; order = order } }
     {
         Round {
             tag,
             before,
-            asks,
-            got,
+            asks: Lists::Flat(asks),
+            got: Lists::Flat(got),
             after,
-            order,
+            order: Lists::Flat(order),
         }
     }
 

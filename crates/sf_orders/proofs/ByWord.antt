@@ -1,8 +1,8 @@
 -- Places whose words do not fall: those on one word stand together.
-use Rattle.std.proofs.Common.{◌≡◌, ◌⊎◌, ℕ, zero, suc, ◌+◌, ◌-◌, ◌<◌, ◌≤◌, Bool, true, false, cond, ◌==◌, nat_lt, List, [], ◌∷◌, map, length, get_or, take, drop, refl, sym, ap, subst, ◌∙◌, ⊎_elim, arith, drop-cons}
-use Rattle.std.specs.Prelude.{filter, slice_range}
+use Rattle.std.proofs.Common.{◌≡◌, ℕ, zero, suc, ◌+◌, ◌-◌, ◌<◌, ◌≤◌, false, ◌==◌, nat_lt, List, [], ◌∷◌, length, get_or, take, drop, refl, sym, ap, ◌∙◌, ⊎_elim, arith}
+use Rattle.std.specs.Prelude.{filter}
 use Rattle.std.specs.List.{AllByRecursion}
-use Rattle.std.proofs.lemmas.Bool.{ltb-true, lt-ltb, le-ltb, eq-eqb, ne_eqb, cases_lt, cond-true, cond-false}
+use Rattle.std.proofs.lemmas.Bool.{lt-ltb, le-ltb, eq-eqb, ne_eqb, cases_lt, cond-true, cond-false}
 use Rattle.plain_lists.proofs.Each.{all_weaker, all_at}
 use Rattle.plain_lists.proofs.Filters.{filter_none}
 use Rattle.sf_orders.specs.declared.place.Place.{Place}
@@ -28,6 +28,11 @@ below-none w (p ∷ ps) h = below-no w p ps h.0 ∙ below-none w ps h.1
 pub below-within : (w : ℕ) (ps : List Place) → below_word w ps ≤ length ps
 below-within w [] = omega arith
 below-within w (p ∷ ps) = let rest = below-within w ps in ⊎_elim (λ lt. let here = below-yes w p ps lt in omega arith) (λ ge. let here = below-no w p ps ge in omega arith) (cases_lt p.word w)
+
+-- all are, where each one's word is
+pub below-whole : (w : ℕ) (ps : List Place) → AllByRecursion (λ (p : Place). p.word < w) ps → below_word w ps ≡ length ps
+below-whole w [] h = refl
+below-whole w (p ∷ ps) h = below-yes w p ps h.0 ∙ ap suc (below-whole w ps h.1)
 
 pub below-rises : (w : ℕ) (ps : List Place) → below_word w ps ≤ below_word (w + 1) ps
 below-rises w [] = omega arith

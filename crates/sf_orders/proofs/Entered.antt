@@ -1,13 +1,10 @@
 -- Entries and kinds as they are gone through, rank by rank.
-use Rattle.std.proofs.Common.{◌≡◌, ℕ, zero, suc, ◌+◌, ◌<◌, ◌≤◌, Bool, true, false, cond, List, [], ◌∷◌, ◌++◌, map, length, get_or, drop, refl, sym, ap, subst, ◌∙◌, arith, add-one, drop-cons, append_assoc}
+use Rattle.std.proofs.Common.{◌≡◌, ℕ, zero, suc, ◌+◌, ◌<◌, ◌≤◌, List, [], ◌∷◌, ◌++◌, map, length, get_or, drop, refl, sym, ap, subst, ◌∙◌, arith, add-one, drop-cons, append_assoc}
 use Rattle.std.specs.Prelude.{filter}
 use Rattle.std.specs.List.{AllByRecursion}
-use Rattle.std.specs.declared.vec.Vec.{Vec}
-use Rattle.std.specs.declared.alloc.Global.{Global}
-use Rattle.std.proofs.lemmas.List.{map-append, append-nil}
+use Rattle.std.proofs.lemmas.List.{map-append, append-nil, length-map}
 use Rattle.std.proofs.lemmas.List.Elements.{filter-append}
-use Rattle.plain_lists.specs.Vectors.{lists_of}
-use Rattle.plain_lists.proofs.Each.{all_at, all_in_flat_map, all_from}
+use Rattle.plain_lists.proofs.Each.{all_at, all_in_flat_map, all_from, all_map, all_mapped}
 use Rattle.plain_lists.proofs.Filters.{map_same}
 use Rattle.sf_defs.specs.declared.Op.{Op}
 use Rattle.sf_defs.specs.declared.Op.TheVariants.{Load, Sum, Min, Max, Or, And, Replace}
@@ -15,16 +12,15 @@ use Rattle.sf_defs.specs.declared.Ask.{Ask}
 use Rattle.sf_defs.specs.Asks.{Entry}
 use Rattle.sf_defs.specs.PrintedOrder.{kind_of}
 use Rattle.sf_defs.specs.Rounds.{all_asks, asks_on, entries}
-use Rattle.round_laws.proofs.Entries.{entries_from}
+use Rattle.round_laws.proofs.Entries.{entries_from, numbered-asks}
 use Rattle.sf_orders.specs.declared.place.Place.{Place}
 use Rattle.sf_orders.specs.Places.{is_on, then_kind, place_of, place_in, places_of, entries_of}
 
--- ---- vectors
+-- ---- lists of ranks
 
-pub lists_of-at : {X : Type 0} (vectors : List (Vec X Global)) (k : ℕ) (v : Vec X Global) → k < length vectors → get_or (lists_of vectors) k [] ≡ (get_or vectors k v).items
-lists_of-at [] k v h = absurd (omega arith)
-lists_of-at (x ∷ xs) zero v h = refl
-lists_of-at (x ∷ xs) (suc k) v h = lists_of-at xs k v (omega arith)
+-- as many lists of values as of asks
+pub as_many : (asks : List (List Ask)) (got : List (List ℕ)) → map length got ≡ map length asks → length got ≡ length asks
+as_many asks got fetched = sym (length-map got length) ∙ (ap length fetched ∙ length-map asks length)
 
 -- what all asks have, each rank's have
 pub rank_asks : (P : Ask → Type 0) (asks : List (List Ask)) (rank : ℕ) → AllByRecursion P (all_asks asks) → rank < length asks → AllByRecursion P (get_or asks rank [])
@@ -65,6 +61,23 @@ unfolding places_of
 places-kinds kinds words asks got h =
     map_same (place_in kinds words) (λ e. place_of (kind_of (asks_on e.ask.word asks)) (get_or words e.ask.word 0) e) (entries asks got)
     (all_from (λ e. place_in kinds words e ≡ place_of (kind_of (asks_on e.ask.word asks)) (get_or words e.ask.word 0) e) (λ e. ap (λ kind. place_of kind (get_or words e.ask.word 0) e) (h e.ask.word)) (entries asks got))
+
+-- the asks of entries are the asks
+entries-asks : (n : ℕ) (asks : List (List Ask)) (got : List (List ℕ)) → map length got ≡ map length asks → map (λ (e : Entry). e.ask) (entries_from n asks got) ≡ all_asks asks
+entries-asks n [] got h = refl
+entries-asks n (a ∷ asks) [] h = absurd (cc h)
+entries-asks n (a ∷ asks) (g ∷ got) h =
+    let same : length g ≡ length a = cc h in
+    let rest : map length got ≡ map length asks = cc h in
+    map-append (λ (e : Entry). e.ask) (entries_of n 0 a g) (entries_from (n + 1) asks got)
+    ∙ (λ i. numbered-asks n 0 a g same i ++ entries-asks (n + 1) asks got rest i)
+
+-- what all asks have, their places have
+pub places-all : (P : ℕ → Type 0) (words : List ℕ) (asks : List (List Ask)) (got : List (List ℕ)) → map length got ≡ map length asks → AllByRecursion (λ (a : Ask). P a.word) (all_asks asks) → AllByRecursion (λ (p : Place). P p.word) (places_of words asks got)
+unfolding places_of
+places-all P words asks got fetched h =
+    all_map (λ (p : Place). P p.word) (λ e. place_of (kind_of (asks_on e.ask.word asks)) (get_or words e.ask.word 0) e) (entries asks got)
+    (all_mapped (λ (a : Ask). P a.word) (λ (e : Entry). e.ask) (entries asks got) (subst (AllByRecursion (λ (a : Ask). P a.word)) (sym (entries-asks 0 asks got fetched)) h))
 
 -- ---- kinds
 

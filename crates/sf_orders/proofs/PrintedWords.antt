@@ -1,5 +1,5 @@
 -- The names at sorted places, cut at the words, are the printed orders.
-use Rattle.std.proofs.Common.{◌≡◌, ℕ, zero, suc, ◌+◌, ◌-◌, ◌^◌, ◌<◌, ◌≤◌, Bool, true, false, cond, ◌==◌, List, [], ◌∷◌, map, length, get_or, take, drop, count_by, sum_by, min, IsPermutation, refl, sym, ap, subst, ◌∙◌, arith, is_lt}
+use Rattle.std.proofs.Common.{◌≡◌, ℕ, ◌+◌, ◌-◌, ◌<◌, ◌≤◌, Bool, true, false, cond, ◌==◌, List, [], ◌∷◌, map, length, get_or, take, drop, count_by, sum_by, min, IsPermutation, refl, sym, ap, ◌∙◌, arith, is_lt}
 use Rattle.std.specs.Prelude.{filter, slice_range}
 use Rattle.std.specs.List.{AllByRecursion}
 use Rattle.std.proofs.lemmas.Bool.{eqb-true}
@@ -12,17 +12,16 @@ use Rattle.plain_lists.specs.Lists.{below}
 use Rattle.plain_lists.proofs.Below.{below-all}
 use Rattle.plain_lists.proofs.Each.{all_at, all_weaker, all_map, all_from, all_filter}
 use Rattle.plain_lists.proofs.Filters.{filter_passing, map_same}
-use Rattle.sf_defs.specs.declared.Op.{Op}
 use Rattle.sf_defs.specs.declared.Ask.{Ask}
 use Rattle.sf_defs.specs.declared.Turn.{Turn}
 use Rattle.sf_defs.specs.Asks.{Entry, on_word}
-use Rattle.sf_defs.specs.PrintedOrder.{kind_of, stands_before, printed_order}
+use Rattle.sf_defs.specs.PrintedOrder.{kind_of, stands_before}
 use Rattle.sf_defs.specs.Rounds.{asks_on, entries, entry_at, turn_of, printed_turns}
 use Rattle.round_laws.proofs.Entries.{entries-at, asks_on-entries}
 use Rattle.round_laws.proofs.Word.{asks_of}
 use Rattle.sf_fabric.specs.Cut.{cut, part}
 use Rattle.sf_orders.specs.declared.place.Place.{Place}
-use Rattle.sf_orders.specs.Places.{place_of, places_of, turn_at, IsByWord, below_word}
+use Rattle.sf_orders.specs.Places.{place_of, places_of, turn_at, below_word}
 use Rattle.sf_orders.proofs.ByWord.{cut-on}
 use Rattle.sf_orders.proofs.Counted.{counted-printed}
 use Rattle.sf_orders.proofs.Sorted.{place_cmp, AreSorted, stands_in-order, sorted-by_word}

@@ -1,5 +1,5 @@
 -- Where asks stand in printed orders, as numbers that are compared field by field.
-use Rattle.std.specs.Prelude.{◌≡◌, ℕ, zero, suc, ◌-◌, ◌^◌, ◌<◌, ◌≤◌, Bool, ◌==◌, nat_lt, if◌then◌else◌, List, [], ◌∷◌, map, length, get_or, zip}
+use Rattle.std.specs.Prelude.{◌≡◌, ℕ, suc, ◌-◌, ◌^◌, ◌<◌, ◌≤◌, Bool, ◌==◌, nat_lt, if◌then◌else◌, List, [], ◌∷◌, map, length, get_or, zip}
 use Rattle.std.specs.List.{AllByRecursion, enumerate_from}
 use Rattle.sf_defs.specs.declared.Op.{Op}
 use Rattle.sf_defs.specs.declared.Op.TheVariants.{Load, Min, And, Replace}

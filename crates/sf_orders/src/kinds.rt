@@ -1,7 +1,6 @@
 //! The kinds of words.
 ghost use Rattle.std.specs.Prelude.{◌≡◌, ℕ, ◌<◌, ◌++◌, List, length, get_or, filter, IfOk};
 ghost use Rattle.std.specs.List.{AllByRecursion};
-ghost use Rattle.plain_lists.specs.Vectors.{lists_of};
 ghost use Rattle.sf_defs.specs.declared.Op.TheVariants.{Load};
 ghost use Rattle.sf_defs.specs.declared.Ask.{Ask as AskRecord};
 ghost use Rattle.sf_defs.specs.PrintedOrder.{kind_of};
@@ -9,18 +8,22 @@ ghost use Rattle.sf_defs.specs.Rounds.{all_asks, asks_on};
 ghost use Rattle.sf_orders.specs.Places.{is_on, then_kind};
 
 use plex_base::NoMemory;
-use sf_defs::{Ask, Op};
+use sf_fabric::{Ask, FlatLists, Op};
 use std::alloc::Global;
 
 /// The kind of each word: the first operation besides `Load` that is asked on it.
-pub(crate) fn kinds_of(alloc: Global, words: usize, asks: &[Vec<Ask>]) -> Result<Vec<Op>, NoMemory>
-    requires { AllByRecursion (λ (a : AskRecord). a.word < words) (all_asks (lists_of asks.now)) }
+pub(crate) fn kinds_of(
+    alloc: Global,
+    words: usize,
+    asks: &FlatLists<Ask>,
+) -> Result<Vec<Op>, NoMemory>
+    requires { AllByRecursion (λ (a : AskRecord). a.word < words) (all_asks asks.now) }
     ensures length { IfOk result (λ kinds. length kinds.items ≡ words) }
-    ensures kinds { IfOk result (λ kinds. (w : ℕ) → get_or kinds.items w Load ≡ kind_of (asks_on w (lists_of asks.now))) }
+    ensures kinds { IfOk result (λ kinds. (w : ℕ) → get_or kinds.items w Load ≡ kind_of (asks_on w asks.now)) }
 {
     let mut kinds = vec![in alloc; Op::Load; words]?;
-    for own in asks {
-        note_kinds(&mut kinds, own);
+    for rank in 0..asks.len() {
+        note_kinds(&mut kinds, asks.list(rank));
     }
     Ok(kinds)
 }

@@ -2,7 +2,6 @@
 ghost use Rattle.std.specs.Prelude.{◌≡◌, ℕ, ◌+◌, ◌^◌, ◌<◌, ◌≤◌, ◌++◌, List, [], length, map, get_or, IfOk, OnOk};
 ghost use Rattle.std.specs.List.{AllByRecursion};
 ghost use Rattle.plain_lists.specs.Lists.{below};
-ghost use Rattle.plain_lists.specs.Vectors.{lists_of};
 ghost use Rattle.sf_defs.specs.declared.Op.TheVariants.{Load};
 ghost use Rattle.sf_defs.specs.declared.Ask.{Ask as AskRecord};
 ghost use Rattle.sf_defs.specs.PrintedOrder.{kind_of};
@@ -12,7 +11,7 @@ ghost use Rattle.sf_orders.specs.Places.{AreAsked, IsByWord, below_word, entries
 use crate::kinds::kinds_of;
 use crate::place::Place;
 use plex_base::NoMemory;
-use sf_fabric::{Ask, Lists, Op, Turn};
+use sf_fabric::{Ask, FlatLists, Op, Turn};
 use std::alloc::Global;
 
 /// The printed order of each word of a round, from the first values of the words, the asks of each rank
@@ -23,38 +22,38 @@ use std::alloc::Global;
 pub fn printed_orders(
     alloc: Global,
     words: &[u64],
-    asks: &[Vec<Ask>],
-    got: &[Vec<u64>],
-) -> Result<Lists<Turn>, NoMemory>
-    requires { AreAsked words.now (lists_of asks.now) (lists_of got.now) }
-    ensures { IfOk result (λ orders. orders ≡ map (printed_turns words.now (lists_of asks.now) (lists_of got.now)) (below (length words.now))) }
+    asks: &FlatLists<Ask>,
+    got: &FlatLists<u64>,
+) -> Result<FlatLists<Turn>, NoMemory>
+    requires { AreAsked words.now asks.now got.now }
+    ensures { IfOk result (λ orders. orders ≡ map (printed_turns words.now asks.now got.now) (below (length words.now))) }
 {
     let mut places = places_of(alloc, words, asks, got)?;
     places.sort_unstable();
     let firsts = firsts_of(alloc, &places, words.len())?;
     let turns = turns_of(alloc, &places)?;
-    Ok(Lists::flat(turns, firsts))
+    Ok(FlatLists::new(turns, firsts))
 }
 
 /// The places of all asks, by rank and index.
 fn places_of(
     alloc: Global,
     words: &[u64],
-    asks: &[Vec<Ask>],
-    got: &[Vec<u64>],
+    asks: &FlatLists<Ask>,
+    got: &FlatLists<u64>,
 ) -> Result<Vec<Place>, NoMemory>
-    requires { AreAsked words.now (lists_of asks.now) (lists_of got.now) }
-    ensures small { OnOk result ((rank k : ℕ) → rank < length got.now → get_or (get_or (lists_of got.now) rank []) k 0 < 2 ^ 64) }
-    ensures places { IfOk result (λ places. places.items ≡ places_of words.now (lists_of asks.now) (lists_of got.now)) }
+    requires { AreAsked words.now asks.now got.now }
+    ensures small { OnOk result ((rank k : ℕ) → rank < length got.now → get_or (get_or got.now rank []) k 0 < 2 ^ 64) }
+    ensures places { IfOk result (λ places. places.items ≡ places_of words.now asks.now got.now) }
 {
     let kinds = kinds_of(alloc, words.len(), asks)?;
-    let mut places = Vec::new(alloc);
+    let mut places = Vec::with_capacity(alloc, asks.total())?;
     for rank in 0..asks.len() {
         add_places(
             &mut places,
             rank as u32,
-            &asks[rank],
-            &got[rank],
+            asks.list(rank),
+            got.list(rank),
             words,
             &kinds,
         )?;

@@ -1,15 +1,15 @@
 -- Where walks end: each step keeps it, and from the start on it is what the script gives.
-use Rattle.std.proofs.Common.{◌≡◌, ◌≢◌, ◌⊎◌, ℕ, zero, suc, ◌+◌, ◌<◌, ◌≤◌, Bool, true, false, cond, ◌==◌, nat_lt, List, [], ◌∷◌, ◌++◌, map, length, get_or, set, take, drop, refl, sym, ap, subst, ◌∙◌, ⊎_elim, arith, drop-cons}
-use Rattle.std.specs.Prelude.{filter, flat_map}
+use Rattle.std.proofs.Common.{◌≡◌, ◌≢◌, ℕ, zero, suc, ◌+◌, ◌<◌, ◌≤◌, ◌==◌, nat_lt, List, [], ◌∷◌, ◌++◌, map, length, get_or, set, take, drop, refl, sym, ap, ◌∙◌, ⊎_elim, arith, drop-cons}
+use Rattle.std.specs.Prelude.{flat_map}
 use Rattle.std.specs.List.{enumerate_from}
 use Rattle.std.proofs.lemmas.Bool.{lt-ltb, le-ltb, cases_lt, cond-true, cond-false, eq-eqb, ne_eqb}
-use Rattle.std.proofs.lemmas.List.{length-map, length-set, length-append, get_or-set_same, get_or-set_other, get_or_past, set-get_or, take-append-drop, append-nil, same_lists, get_or-map}
+use Rattle.std.proofs.lemmas.List.{length-map, length-set, length-append, get_or-set_same, get_or-set_other, get_or_past, set-get_or, append-nil, same_lists}
 use Rattle.std.proofs.lemmas.List.FromFn.{length-enumerate_from}
 use Rattle.plain_lists.specs.Lists.{below}
 use Rattle.plain_lists.proofs.Below.{length-below, get_or-map-below}
 use Rattle.sf_defs.specs.declared.Op.TheVariants.{Load}
 use Rattle.sf_defs.specs.declared.Ask.{Ask}
-use Rattle.sf_defs.specs.Asks.{Entry, after_ask, of_rank}
+use Rattle.sf_defs.specs.Asks.{Entry, of_rank}
 use Rattle.sf_defs.specs.Script.{Event, queues, walk, words_after, fetching, words_after_all, fetched_by_rank}
 use Rattle.round_laws.proofs.Shuffles.{same_rank}
 use Rattle.sf_script.specs.Walks.{Standing, done, done_next, done_all, left, ending, start}

@@ -1,14 +1,12 @@
 -- What a scripted round has.
-use Rattle.std.proofs.Common.{◌≡◌, ◌≢◌, ◌↔◌, ℕ, ◌<◌, ◌≤◌, ◌^◌, Bool, true, false, List, [], ◌∷◌, ◌++◌, length, map, refl, ap, subst, sym, arith, ◌∙◌, Result, Ok, Err, IfOk, IsTrue}
-use Rattle.std.proofs.lemmas.Bool.{false≢true}
+use Rattle.std.proofs.Common.{◌≡◌, ℕ, List, length, map, refl, ap, arith, ◌∙◌}
 use Rattle.plain_lists.specs.Lists.{below}
 use Rattle.sf_defs.specs.declared.Tag.{Tag}
-use Rattle.sf_defs.specs.declared.Tag.TheVariants.{Free, Home, Number}
+use Rattle.sf_defs.specs.declared.Tag.TheVariants.{Free}
 use Rattle.sf_defs.specs.declared.Ask.{Ask}
-use Rattle.sf_defs.specs.Rounds.{Round, IsLegal, MeetsConditions, printed_turns}
+use Rattle.sf_defs.specs.Rounds.{MeetsConditions, printed_turns}
 use Rattle.sf_defs.specs.Script.{scripted, walk, queues, fetching, fetched_by_rank, words_after_all}
 use Rattle.round_laws.proofs.Scripts.{scripted-legal}
-use Rattle.sf_fabric.specs.Kept.{kept_as, kept_with}
 use Rattle.sf_orders.specs.Places.{AreAsked}
 
 -- the round of these parts
@@ -42,21 +40,3 @@ scripted-before tag words asks picks = refl
 pub scripted-asks : (tag : Tag) (words : List ℕ) (asks : List (List Ask)) (picks : List ℕ) → (scripted tag words asks picks).asks ≡ asks
 unfolding scripted
 scripted-asks tag words asks picks = refl
-
--- ---- rounds that are kept
-
-pub if_ok : {X E : Type 0} (P Q : X → Type 0) (r : Result X E) → ((x : X) → P x → Q x) → IfOk r P → IfOk r Q
-if_ok P Q (Ok x) f h = f x h
-if_ok P Q (Err e) f h = h
-
--- a free round is not
-pub free-kept : (kept : Bool) (tag : Tag) (r : Round) (rounds : List Round) → (IsTrue kept ↔ (tag ≢ Free)) → kept ≡ false → r.tag ≡ tag → rounds ≡ kept_with rounds r
-free-kept kept Free r rounds h is e = sym (ap (λ t. kept_as t rounds r) e)
-free-kept kept Home r rounds h is e = absurd (false≢true (sym is ∙ h.1 (λ (k : Home ≡ Free). cc k)))
-free-kept kept Number r rounds h is e = absurd (false≢true (sym is ∙ h.1 (λ (k : Number ≡ Free). cc k)))
-
--- any other is
-pub others-kept : (kept : Bool) (tag : Tag) (r : Round) (rounds : List Round) → (IsTrue kept ↔ (tag ≢ Free)) → kept ≡ true → r.tag ≡ tag → kept_with rounds r ≡ rounds ++ r ∷ []
-others-kept kept Free r rounds h is e = absurd (h.0 is refl)
-others-kept kept Home r rounds h is e = ap (λ t. kept_as t rounds r) e
-others-kept kept Number r rounds h is e = ap (λ t. kept_as t rounds r) e

@@ -1,5 +1,5 @@
 -- A walk through the asks of a round: where it stands, and what is still to come.
-use Rattle.std.specs.Prelude.{ℕ, nat_lt, if◌then◌else◌, List, [], ◌∷◌, ◌++◌, length, map, get_or, set, drop}
+use Rattle.std.specs.Prelude.{◌≡◌, ℕ, ◌≤◌, nat_lt, if◌then◌else◌, List, [], ◌∷◌, ◌++◌, length, map, get_or, set, take, drop}
 use Rattle.plain_lists.specs.Lists.{below}
 use Rattle.sf_defs.specs.declared.Op.TheVariants.{Load}
 use Rattle.sf_defs.specs.declared.Ask.{Ask}
@@ -10,6 +10,22 @@ use Rattle.sf_defs.specs.Script.{Event, queues, walk}
 pub record Standing : Type 0 where
   pub words : List ℕ
   pub got : List (List ℕ)
+
+-- so many of each list
+abbrev pub taken : List ℕ → List (List ℕ) → List (List ℕ)
+taken [] lists = []
+taken (n ∷ ns) [] = []
+taken (n ∷ ns) (l ∷ ls) = take n l ∷ taken ns ls
+
+-- so many of each list are there
+pub record AreThere (counts : List ℕ) (lists : List (List ℕ)) : Type 0 where
+  pub each : length counts ≡ length lists
+  pub low : (k : ℕ) → get_or counts k 0 ≤ length (get_or lists k [])
+
+-- where a walk stands, and for how many values of each rank it has room
+pub record Course : Type 0 where
+  pub at : Standing
+  pub rooms : List ℕ
 
 -- after an ask of a rank
 abbrev pub done : Standing → ℕ → Ask → Standing

@@ -8,7 +8,6 @@ ghost use Rattle.sf_fabric.specs.Kept.{kept_with};
 use crate::round::scripted_round;
 use plex_base::NoMemory;
 use sf_fabric::{Ask, Fabric, Round, Tag};
-use std::alloc::Global;
 
 /// A fabric that does the asks of its rounds in a given order.
 ///
@@ -38,8 +37,6 @@ impl ScriptFabric {
     }
 
     /// Runs a round, as [`Fabric::run`] does: the scripted round of the picks.
-    ///
-    /// A round that is kept is run twice, so that it can be kept and answered.
     pub fn run_script(
         &mut self,
         tag: Tag,
@@ -57,14 +54,10 @@ impl ScriptFabric {
         ensures no_memory { OnErr result (self.new.kept.items ≡ self.old.kept.items) }
     {
         let alloc = *words.allocator();
-        if !tag.is_kept() {
-            return scripted_round(alloc, &self.picks, tag, words, asks);
-        }
-        let words_again = Vec::from_slice(alloc, &words)?;
-        let asks_again = copies(alloc, &asks)?;
-        let kept = scripted_round(alloc, &self.picks, tag, words_again, asks_again)?;
         let round = scripted_round(alloc, &self.picks, tag, words, asks)?;
-        self.kept.push(kept)?;
+        if tag.is_kept() {
+            self.kept.push(round.try_clone(alloc)?)?;
+        }
         Ok(round)
     }
 }
@@ -75,15 +68,4 @@ impl Fabric for ScriptFabric {
     fn run(&mut self, tag: Tag, words: Vec<u64>, asks: Vec<Vec<Ask>>) -> Result<Round, NoMemory> {
         self.run_script(tag, words, asks)
     }
-}
-
-/// A copy of each rank's asks.
-fn copies(alloc: Global, asks: &[Vec<Ask>]) -> Result<Vec<Vec<Ask>>, NoMemory>
-    ensures { IfOk result (λ copies. lists_of copies.items ≡ lists_of asks.now) }
-{
-    let mut copies = Vec::with_capacity(alloc, asks.len())?;
-    for own in asks {
-        copies.push(Vec::from_slice(alloc, own)?)?;
-    }
-    Ok(copies)
 }

@@ -6,7 +6,7 @@ ghost use Rattle.sf_defs.specs.Script.{scripted};
 
 use crate::walk::Walk;
 use plex_base::NoMemory;
-use sf_fabric::{Ask, Lists, Round, Tag};
+use sf_fabric::{Ask, FlatLists, Round, Tag};
 use sf_orders::printed_orders;
 use std::alloc::Global;
 
@@ -25,9 +25,9 @@ pub(crate) fn scripted_round(
     ensures before { IfOk result (λ r. r.before ≡ words.items) }
     ensures asks { IfOk result (λ r. r.asks ≡ lists_of asks.items) }
 {
+    let asks = FlatLists::of_nested(alloc, asks)?;
     let walk = Walk::through(alloc, picks, &words, &asks)?;
     let (after, got) = walk.into_parts();
     let order = printed_orders(alloc, &words, &asks, &got)?;
-    let (asks, got) = (Lists::nested(asks), Lists::nested(got));
-    Ok(Round::of_lists(tag, words, asks, got, after, order))
+    Ok(Round::flat(tag, words, asks, got, after, order))
 }

@@ -1,25 +1,22 @@
 -- What was played on a table is a legal round.
-use Rattle.std.proofs.Common.{◌≡◌, ℕ, ◌+◌, ◌<◌, ◌^◌, List, [], ◌∷◌, ◌++◌, length, map, get_or, replicate, zip, refl, sym, ap, subst, ◌∙◌, arith}
+use Rattle.std.proofs.Common.{◌≡◌, ℕ, ◌+◌, ◌<◌, ◌^◌, List, [], ◌∷◌, ◌++◌, length, map, get_or, zip, refl, sym, ap, ◌∙◌, arith}
 use Rattle.std.specs.Prelude.{flat_map, Result, Ok, Err, IfOk}
 use Rattle.std.specs.List.{AllByRecursion, enumerate_from}
-use Rattle.std.proofs.lemmas.List.{length-map, length-replicate, map-append}
+use Rattle.std.proofs.lemmas.List.{length-map, map-append}
 use Rattle.plain_lists.proofs.Below.{length-below, get_or-map-below}
 use Rattle.plain_lists.specs.Lists.{below}
 use Rattle.sf_defs.specs.declared.Tag.{Tag}
 use Rattle.sf_defs.specs.declared.Ask.{Ask}
-use Rattle.sf_defs.specs.declared.Turn.{Turn}
 use Rattle.sf_defs.specs.declared.Op.TheVariants.{Load}
-use Rattle.sf_defs.specs.Asks.{Entry}
-use Rattle.sf_defs.specs.Rounds.{Round, MeetsConditions, IsLegal, all_asks, rank_entries, entries, printed_turns}
-use Rattle.round_laws.specs.ReplayingOrders.{HasReplayingOrders, IsPrinted}
+use Rattle.sf_defs.specs.Rounds.{Round, MeetsConditions, IsLegal, all_asks, rank_entries, printed_turns}
+use Rattle.round_laws.specs.ReplayingOrders.{IsPrinted}
 use Rattle.round_laws.proofs.Legal.{legal-from-orders}
 use Rattle.sf_orders.specs.Places.{AreAsked}
-use Rattle.thread_rule.specs.declared.view.Done.{Done}
 use Rattle.thread_rule.specs.declared.view.Key.{Key}
 use Rattle.thread_rule.specs.Rule.{entry_of, view}
 use Rattle.thread_rule.proofs.Ending.{ends}
 use Rattle.sf_threads.specs.Doing.{IsDoable, AreDoable, dones, all_dones}
-use Rattle.sf_threads.specs.Played.{HasPlayed, IsPlayable, HaveOrders, zeros_of}
+use Rattle.sf_threads.specs.Played.{HasPlayed, IsPlayable, HaveOrders}
 
 -- ---- what was done, as entries
 
@@ -61,10 +58,6 @@ playable key asks some ranks met = record {
   few_ranks = omega (arith, met.few_ranks);
   doable = doable-all (length key.words.items) asks met.few_asks met.in_range met.plain_loads;
 }
-
-pub zeros-many : (asks : List (List Ask)) → map length (zeros_of asks) ≡ map length asks
-zeros-many [] = refl
-zeros-many (own ∷ asks) = (λ i. length-replicate {A = ℕ} (length own) 0 i ∷ zeros-many asks i)
 
 pub asked : (words : List ℕ) (asks : List (List Ask)) (got : List (List ℕ)) → MeetsConditions words asks → map length got ≡ map length asks → AreAsked words asks got
 asked words asks got met many = record { few_words = met.few_words; few_ranks = omega (arith, met.few_ranks); few_asks = met.few_asks; in_range = met.in_range; fetched = many }

@@ -1,5 +1,5 @@
 -- What the table of a round ends with.
-use Rattle.std.specs.Prelude.{◌≡◌, ℕ, ◌<◌, ◌^◌, List, length, map, get_or, replicate}
+use Rattle.std.specs.Prelude.{◌≡◌, ℕ, ◌<◌, ◌^◌, List, length, get_or}
 use Rattle.std.specs.List.{AllByRecursion}
 use mathlib.Core.Option.{some}
 use lib.ListN.{get_elem?}
@@ -31,7 +31,3 @@ pub record IsPlayable (key : Key) (asks : List (List Ask)) : Type 0 where
 abbrev pub HaveOrders : List ℕ → List (List Ask) → List (List ℕ) → List ℕ → Type 0
 HaveOrders words asks got after =
     (w : ℕ) → w < length words → (es : List Entry) × IsOrderOf (on_word w (entries asks got)) es × Replays (get_or words w 0) es (get_or after w 0)
-
--- a value for each ask
-abbrev pub zeros_of : List (List Ask) → List (List ℕ)
-zeros_of asks = map (λ own. replicate (length own) 0) asks

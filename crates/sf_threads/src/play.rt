@@ -1,6 +1,8 @@
 //! A table of words, and what ranks leave on it.
 ghost use Rattle.std.specs.Prelude.{◌≡◌, ◌<◌, length, map, IfOk};
+ghost use Rattle.std.specs.List.{sum_by};
 ghost use Rattle.plain_lists.specs.Vectors.{lists_of};
+ghost use Rattle.sf_fabric.specs.Cut.{shared};
 ghost use Rattle.atomic_table.specs.Table.{Final, Seen};
 ghost use Rattle.std.specs.Mem.Slots.{slots_items, slots_len, IsFull};
 ghost use Rattle.thread_rule.specs.Rule.{Kept};
@@ -16,20 +18,20 @@ use std::alloc::Global;
 use std::thread::Threads;
 use thread_rule::{Key, RoundRule, View};
 
-/// Does all asks on a table of the key's words, puts what they fetched into `got`, and answers the words afterwards.
+/// Does all asks on a table of the key's words, puts what they fetched into `got`, one rank's after another's, and answers the words afterwards.
 pub(crate) fn play<R: Threads, G: Gate>(
     rt: &R,
     alloc: Global,
     gate: &G,
     key: &Key,
     asks: &[Vec<Ask>],
-    got: &mut [Vec<u64>],
+    got: &mut [u64],
 ) -> Result<Vec<u64>, NoMemory>
     requires playable { IsPlayable key.now (lists_of asks.now) }
-    requires got { map length (lists_of got.old) ≡ map length (lists_of asks.now) }
-    ensures got { map length (lists_of got.new) ≡ map length (lists_of asks.now) }
+    requires got { length got.old ≡ sum_by length (lists_of asks.now) }
+    ensures got { length got.new ≡ sum_by length (lists_of asks.now) }
     ensures count { IfOk result (λ after. length after.items ≡ length key.now.words.items) }
-    ensures played { IfOk result (λ after. HasPlayed key.now (lists_of asks.now) (lists_of got.new) after.items) }
+    ensures played { IfOk result (λ after. HasPlayed key.now (lists_of asks.now) (shared (map length (lists_of asks.now)) got.new) after.items) }
 {
     let mut after = Vec::from_slice(alloc, &key.words)?;
     let (table, mut seat) = Table::<(), View, Key, RoundRule, Global>::of_words(

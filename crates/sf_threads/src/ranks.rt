@@ -1,8 +1,9 @@
 //! All ranks at once.
 ghost use Rattle.std.specs.Prelude.{◌≡◌, ◌+◌, ◌<◌, ◌≤◌, ◌^◌, [], length, map};
-ghost use Rattle.std.specs.List.{AllByRecursion};
+ghost use Rattle.std.specs.List.{AllByRecursion, sum_by};
 ghost use Rattle.std.specs.Thread.{IsSync};
 ghost use Rattle.plain_lists.specs.Vectors.{lists_of};
+ghost use Rattle.sf_fabric.specs.Cut.{shared};
 ghost use Rattle.thread_rule.specs.Rule.{view};
 ghost use Rattle.sf_threads.specs.Doing.{AreDoable, dones, all_dones};
 
@@ -13,7 +14,7 @@ use std::thread::{Threads, join_mut};
 use thread_rule::{Halves, Joined};
 
 /// Does the asks of all ranks from `first` on, each rank's in a thread of its own where one can be started, and
-/// puts what they fetched into `got`.
+/// puts what they fetched into `got`, one rank's after another's.
 #[cycle(ranks)]
 pub(crate) fn do_all<R: Threads, G: Gate>(
     rt: &R,
@@ -22,7 +23,7 @@ pub(crate) fn do_all<R: Threads, G: Gate>(
     gate: &G,
     first: u32,
     asks: &[Vec<Ask>],
-    got: &mut [Vec<u64>],
+    got: &mut [u64],
 )
     requires table { seat.old.table_id ≡ words.now.table_id }
     requires count { words.now.table_id.words ≡ length words.now.key.words.items }
@@ -30,27 +31,18 @@ pub(crate) fn do_all<R: Threads, G: Gate>(
     requires seat { seat.old.me ≡ (view first (first + length asks.now) [], []) }
     requires room { first + length asks.now < 2 ^ 32 }
     requires asks { AllByRecursion (AreDoable (length words.now.key.words.items)) (lists_of asks.now) }
-    requires got { map length (lists_of got.old) ≡ map length (lists_of asks.now) }
+    requires got { length got.old ≡ sum_by length (lists_of asks.now) }
     ensures same { (seat.new.table_id ≡ seat.old.table_id) × (seat.new.id ≡ seat.old.id) }
-    ensures got { map length (lists_of got.new) ≡ map length (lists_of asks.now) }
-    ensures done { seat.new.me ≡ (view first (first + length asks.now) (all_dones first (lists_of asks.now) (lists_of got.new)), []) }
+    ensures got { length got.new ≡ sum_by length (lists_of asks.now) }
+    ensures done { seat.new.me ≡ (view first (first + length asks.now) (all_dones first (lists_of asks.now) (shared (map length (lists_of asks.now)) got.new)), []) }
 {
     let Some((own, others)) = asks.split_first() else {
         return;
     };
-    let (mine, theirs) = got.split_at_mut(1);
+    let (mine, theirs) = got.split_at_mut(own.len());
     let mut rest = words.split_seat::<Halves>(seat);
     do_both(
-        rt,
-        words,
-        seat,
-        gate,
-        first,
-        own,
-        &mut mine[0],
-        &mut rest,
-        others,
-        theirs,
+        rt, words, seat, gate, first, own, mine, &mut rest, others, theirs,
     );
     words.join_seat::<Joined>(seat, rest);
 }
@@ -67,18 +59,18 @@ fn do_both<R: Threads, G: Gate>(
     mine: &mut [u64],
     rest: &mut RankSeat,
     others: &[Vec<Ask>],
-    theirs: &mut [Vec<u64>],
+    theirs: &mut [u64],
 )
     requires tables { (seat.old.table_id ≡ words.now.table_id) × (rest.old.table_id ≡ words.now.table_id) }
     requires count { (words.now.table_id.words ≡ length words.now.key.words.items) × (0 < words.now.table_id.words) }
     requires seats { (seat.old.me ≡ (view first (first + 1) [], [])) × (rest.old.me ≡ (view (first + 1) (first + 1 + length others.now) [], [])) }
     requires room { first + 1 + length others.now < 2 ^ 32 }
     requires own { AreDoable (length words.now.key.words.items) own.now × (length mine.old ≡ length own.now) }
-    requires others { AllByRecursion (AreDoable (length words.now.key.words.items)) (lists_of others.now) × (map length (lists_of theirs.old) ≡ map length (lists_of others.now)) }
+    requires others { AllByRecursion (AreDoable (length words.now.key.words.items)) (lists_of others.now) × (length theirs.old ≡ sum_by length (lists_of others.now)) }
     ensures same { (seat.new.table_id ≡ seat.old.table_id) × (seat.new.id ≡ seat.old.id) × (rest.new.table_id ≡ rest.old.table_id) × (rest.new.id ≡ rest.old.id) }
-    ensures got { (length mine.new ≡ length own.now) × (map length (lists_of theirs.new) ≡ map length (lists_of others.now)) }
+    ensures got { (length mine.new ≡ length own.now) × (length theirs.new ≡ sum_by length (lists_of others.now)) }
     ensures own { seat.new.me ≡ (view first (first + 1) (dones first own.now mine.new), []) }
-    ensures others { rest.new.me ≡ (view (first + 1) (first + 1 + length others.now) (all_dones (first + 1) (lists_of others.now) (lists_of theirs.new)), []) }
+    ensures others { rest.new.me ≡ (view (first + 1) (first + 1 + length others.now) (all_dones (first + 1) (lists_of others.now) (shared (map length (lists_of others.now)) theirs.new)), []) }
 {
     let mut front = ||
         requires { IsSync G.row × (seat.now.table_id ≡ words.now.table_id) × (words.now.table_id.words ≡ length words.now.key.words.items)
@@ -89,9 +81,9 @@ fn do_both<R: Threads, G: Gate>(
     let mut back = ||
         requires { IsSync G.row × (rest.now.table_id ≡ words.now.table_id) × (words.now.table_id.words ≡ length words.now.key.words.items) × (0 < words.now.table_id.words)
             × (rest.now.me ≡ (view (first + 1) (first + 1 + length others.now) [], [])) × (first + 1 + length others.now < 2 ^ 32)
-            × AllByRecursion (AreDoable (length words.now.key.words.items)) (lists_of others.now) × (map length (lists_of theirs.now) ≡ map length (lists_of others.now)) }
-        ensures { (rest.exit.now.table_id ≡ rest.entry.now.table_id) × (rest.exit.now.id ≡ rest.entry.now.id) × (map length (lists_of theirs.exit.now) ≡ map length (lists_of others.entry.now))
-            × (rest.exit.now.me ≡ (view (first + 1) (first + 1 + length others.entry.now) (all_dones (first + 1) (lists_of others.entry.now) (lists_of theirs.exit.now)), [])) }
+            × AllByRecursion (AreDoable (length words.now.key.words.items)) (lists_of others.now) × (length theirs.now ≡ sum_by length (lists_of others.now)) }
+        ensures { (rest.exit.now.table_id ≡ rest.entry.now.table_id) × (rest.exit.now.id ≡ rest.entry.now.id) × (length theirs.exit.now ≡ sum_by length (lists_of others.entry.now))
+            × (rest.exit.now.me ≡ (view (first + 1) (first + 1 + length others.entry.now) (all_dones (first + 1) (lists_of others.entry.now) (shared (map length (lists_of others.entry.now)) theirs.exit.now)), [])) }
     { do_all(rt, words, rest, gate, first + 1, others, theirs) };
     join_mut(rt, &mut front, &mut back);
 }

@@ -1,13 +1,12 @@
 use Rattle.std.proofs.Common.{◌≡◌, ℕ, length, get_or, drop}
-use Rattle.plain_lists.specs.Vectors.{lists_of}
 use Rattle.sf_defs.specs.declared.Op.TheVariants.{Load}
 use Rattle.sf_defs.specs.PrintedOrder.{kind_of}
 use Rattle.sf_defs.specs.Rounds.{asks_on}
 use Rattle.sf_orders.specs.Places.{then_kind}
 use Rattle.sf_orders.proofs.kinds.kinds_of.Given as goal
 
-abbrev pub invariant-loop-own : goal.invariant-loop-own
-invariant-loop-own l = record {
+abbrev pub invariant-loop-rank : goal.invariant-loop-rank
+invariant-loop-rank l = record {
   count : length l.kinds.items ≡ l.words;
-  rest : (w : ℕ) → then_kind (get_or l.kinds.items w Load) (asks_on w (drop l.own-index (lists_of l.asks))) ≡ kind_of (asks_on w (lists_of l.asks));
+  rest : (w : ℕ) → then_kind (get_or l.kinds.items w Load) (asks_on w (drop l.rank l.asks)) ≡ kind_of (asks_on w l.asks);
 }

@@ -1,4 +1,4 @@
-use Rattle.std.proofs.Common.{◌≡◌, sym, arith}
+use Rattle.std.proofs.Common.{sym, arith}
 use Rattle.std.proofs.lemmas.Grind.{common_steps}
 use Rattle.sf_orders.proofs.ByWord.{below-zero}
 use Rattle.sf_orders.proofs.orders.firsts_of.Goals as goal

@@ -1,6 +1,5 @@
-use Rattle.std.proofs.Common.{◌≡◌, ℕ, ◌+◌, ◌<◌, ◌≤◌, ◌≢◌, false, length, get_or, arith}
+use Rattle.std.proofs.Common.{◌+◌, ◌≤◌, ◌≢◌, false, get_or, arith}
 use Rattle.sf_orders.specs.declared.place.Place.{Place}
-use Rattle.sf_orders.specs.Places.{below_word}
 use Rattle.sf_orders.proofs.ByWord.{below-rises, below-within, before-below, past-below, word-past}
 use Rattle.sf_orders.proofs.orders.past_word.Goals as goal
 

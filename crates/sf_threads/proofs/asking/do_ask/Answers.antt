@@ -1,4 +1,4 @@
-use Rattle.std.proofs.Common.{◌≡◌, ℕ, ◌<◌, ◌+◌, ◌%◌, ◌^◌, min, max, refl, subst, sym}
+use Rattle.std.proofs.Common.{◌<◌, ◌+◌, ◌%◌, ◌^◌, min, max, refl, subst, sym}
 use Rattle.std.specs.Prelude.{bit_and, bit_or}
 use Rattle.sf_defs.specs.declared.Op.TheVariants.{Load, Sum, Min, Max, Or, And, Replace}
 use Rattle.sf_defs.specs.Asks as asks

@@ -1,4 +1,4 @@
-use Rattle.std.proofs.Common.{◌≡◌, ℕ, List, [], sym, subst}
+use Rattle.std.proofs.Common.{ℕ, List, [], sym, subst}
 use Rattle.atomic_table.specs.Table.{opening}
 use Rattle.thread_rule.specs.Rule.{Kept, everyone}
 use Rattle.thread_rule.proofs.Moves.{begins}

@@ -1,12 +1,7 @@
-use Rattle.std.proofs.Common.{rules, ◌≡◌, ◌+◌, ◌<◌, ◌≤◌, [], length, map, get_or, ℕ, List, ◌∷◌, ◌++◌, sym, ap, subst, ◌∙◌, refl, arith}
-use Rattle.std.specs.Vec.{with_items}
-use Rattle.std.proofs.lemmas.List.{with_items_is, places}
-use Rattle.plain_lists.specs.Vectors.{lists_of}
+use Rattle.std.proofs.Common.{◌≡◌, ◌+◌, length, ap, ◌∙◌, arith}
 use Rattle.atomic_table.specs.Table.{Me}
 use Rattle.thread_rule.specs.declared.view.View.{View}
-use Rattle.thread_rule.specs.Rule.{view}
 use Rattle.thread_rule.proofs.Moves.{splits, joins}
-use Rattle.sf_threads.specs.Doing.{dones, all_dones}
 use Rattle.sf_threads.proofs.Parts.{got-after, both-done}
 use Rattle.sf_threads.proofs.ranks.+ranks.Goals as goal
 
@@ -33,11 +28,11 @@ do_all-join_seat-requires g t c =
 
 pub do_all-returns-clause-got : goal.do_all-returns-clause-got
 do_all-returns-clause-got g t c =
-    got-after c.split_at_mut-mine.result.0.now (with_items (get_or c.split_at_mut-mine.result.0.now 0 c.index-mine-0.result) c.do_both.new.mine) c.do_both.new.theirs c.do_both.new.mine c.in-Some.own.now c.deref.result.now c.in-Some.others.now c.args.asks.now
-    c.split_at_mut-mine.ensures.front_len (with_items_is (get_or c.split_at_mut-mine.result.0.now 0 c.index-mine-0.result) c.do_both.new.mine (search (rules, places))) c.do_both.ensures.got.0 c.deref.ensures.value c.do_both.ensures.got.1 c.in-Some.ensures.cases.0
+    got-after c.do_both.new.mine c.do_both.new.theirs c.in-Some.own.now c.deref.result.now c.in-Some.others.now c.args.asks.now
+    c.do_both.ensures.got.0 c.deref.ensures.value c.do_both.ensures.got.1 c.in-Some.ensures.cases.0
 
 pub do_all-returns-clause-done : goal.do_all-returns-clause-done
 do_all-returns-clause-done g t c =
     c.join_seat.ensures.2
-    ∙ both-done c.args.first c.split_at_mut-mine.result.0.now (with_items (get_or c.split_at_mut-mine.result.0.now 0 c.index-mine-0.result) c.do_both.new.mine) c.do_both.new.theirs c.do_both.new.mine c.in-Some.own.now c.deref.result.now c.in-Some.others.now c.args.asks.now c.do_both.new.seat.me c.do_both.new.rest.me
-    c.split_at_mut-mine.ensures.front_len (with_items_is (get_or c.split_at_mut-mine.result.0.now 0 c.index-mine-0.result) c.do_both.new.mine (search (rules, places))) c.deref.ensures.value c.in-Some.ensures.cases.0 c.do_both.ensures.own c.do_both.ensures.others
+    ∙ both-done c.args.first c.do_both.new.mine c.do_both.new.theirs c.in-Some.own.now c.deref.result.now c.in-Some.others.now c.args.asks.now c.do_both.new.seat.me c.do_both.new.rest.me
+    c.do_both.ensures.got.0 c.deref.ensures.value c.in-Some.ensures.cases.0 c.do_both.ensures.own c.do_both.ensures.others
