@@ -4,7 +4,7 @@
 ghost use Rattle.std.specs.Prelude.{◌≡◌, [], ◌∷◌, ◌++◌, IfOk, OnOk, OnErr};
 
 use plex_base::NoMemory;
-use sf_fabric::Lists;
+use sf_fabric::FlatLists;
 use std::alloc::Global;
 use std::marker::Model;
 
@@ -18,14 +18,13 @@ pub struct ListsBuilder<T> {
 
 impl<T> Model for ListsBuilder<T> {
     ghost use Rattle.std.specs.Prelude.{List};
-    ghost use Rattle.sf_fabric.specs.Cut.{cut};
-    ghost use Rattle.flat_lists.specs.Built.{AreBuilt};
+    ghost use Rattle.sf_fabric.specs.Cut.{cut, AreCuts};
 
     ghost Value = { List (List T) };
 
     ghost view = { λ b. cut b.items.items b.firsts.items };
 
-    ghost invariant = { λ b. AreBuilt b.items.items b.firsts.items };
+    ghost invariant = { λ b. AreCuts b.items.items b.firsts.items };
 }
 
 impl<T: Copy> ListsBuilder<T> {
@@ -52,10 +51,10 @@ impl<T: Copy> ListsBuilder<T> {
     }
 
     /// The lists. Takes no memory.
-    pub fn finish(self) -> Lists<T>
+    pub fn finish(self) -> FlatLists<T>
         ensures { result ≡ self }
     {
         let ListsBuilder { items, firsts } = self;
-        Lists::flat(items, firsts)
+        FlatLists::new(items, firsts)
     }
 }

@@ -8,7 +8,7 @@ use flat_lists::ListsBuilder;
 use mesh_defs::Poly;
 use plex_base::NoMemory;
 use plex_mesh::Mesh;
-use sf_fabric::Lists;
+use sf_fabric::FlatLists;
 use std::alloc::Global;
 
 /// The places of the cells that have this rank, rising.
@@ -38,7 +38,7 @@ pub(crate) fn polys_of(alloc: Global, mesh: &Mesh, cells: &[u32]) -> Result<Vec<
 }
 
 /// The vertices of each of these cells.
-pub(crate) fn corners_of(alloc: Global, mesh: &Mesh, cells: &[u32]) -> Result<Lists<u32>, NoMemory>
+pub(crate) fn corners_of(alloc: Global, mesh: &Mesh, cells: &[u32]) -> Result<FlatLists<u32>, NoMemory>
     requires { AllByRecursion (λ c. c < length mesh.now.cells) cells.now }
     ensures { IfOk result (λ corners. corners ≡ map (λ c. (cell_at mesh.now.cells c).vertices) cells.now) }
 {

@@ -8,7 +8,7 @@ use crate::vertices::vertices_of;
 use mesh_defs::Poly;
 use plex_base::NoMemory;
 use plex_mesh::Mesh;
-use sf_fabric::Lists;
+use sf_fabric::FlatLists;
 use std::alloc::Global;
 use std::marker::Model;
 
@@ -18,7 +18,7 @@ use std::marker::Model;
 pub struct RankCells {
     cells: Vec<u32>,
     polys: Vec<Poly>,
-    corners: Lists<u32>,
+    corners: FlatLists<u32>,
     vertices: Vec<u32>,
 }
 
@@ -30,7 +30,7 @@ pub struct CellLists {
     /// The polytope of each cell.
     pub polys: Vec<Poly>,
     /// The vertices of each cell, in the order of its polytope's corners.
-    pub corners: Lists<u32>,
+    pub corners: FlatLists<u32>,
     /// The vertices of the cells, by their positions in the whole mesh.
     pub vertices: Vec<u32>,
 }

@@ -5,7 +5,7 @@ ghost use Rattle.scatter_state.specs.Parts.{part_of, AreRightLists, IsRightPart,
 
 use mesh_defs::Poly;
 use plex_base::Dim;
-use sf_fabric::Lists;
+use sf_fabric::FlatLists;
 use std::marker::Model;
 
 /// What a mark says beside its vertices: the dimension of its point, and its label value.
@@ -23,7 +23,7 @@ pub struct PartLists {
     /// The polytope of each cell.
     pub polys: Vec<Poly>,
     /// The vertices of each cell, in the order of its polytope's corners.
-    pub corners: Lists<u32>,
+    pub corners: FlatLists<u32>,
     /// The vertices of the cells, by their positions in the whole mesh, rising.
     pub vertices: Vec<u32>,
     /// The owner of each vertex.
@@ -33,9 +33,9 @@ pub struct PartLists {
     /// The dimension and the value of each mark.
     pub marks: Vec<MarkHead>,
     /// The vertices of each mark.
-    pub mark_vertices: Lists<u32>,
+    pub mark_vertices: FlatLists<u32>,
     /// For each data section the values of each vertex or cell, in 10^-10: none where it has no row.
-    pub rows: Vec<Lists<i64>>,
+    pub rows: Vec<FlatLists<i64>>,
 }
 
 /// What one rank is given: its cells with their vertices, and the marks and data on its points. No

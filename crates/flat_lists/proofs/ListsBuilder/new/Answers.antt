@@ -1,4 +1,4 @@
-use Rattle.std.proofs.Common.{[], ap₂}
+use Rattle.std.proofs.Common.{ap₂}
 use Rattle.sf_fabric.specs.Cut.{cut}
 use Rattle.flat_lists.proofs.ListsBuilder.new.Goals as goal
 

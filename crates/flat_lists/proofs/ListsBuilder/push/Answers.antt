@@ -1,6 +1,6 @@
 use Rattle.std.proofs.Common.{◌≡◌, [], ◌∷◌, ◌++◌, length, ap, ap₂, ◌∙◌}
 use Rattle.sf_fabric.specs.Cut.{cut}
-use Rattle.flat_lists.proofs.Pushing.{cut-push, built-push}
+use Rattle.flat_lists.proofs.Pushing.{cut-push}
 use Rattle.flat_lists.proofs.ListsBuilder.push.Goals as goal
 
 pub returns-clause-ok : goal.returns-clause-ok
