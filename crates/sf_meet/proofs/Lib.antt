@@ -1,0 +1,7 @@
+mod Names
+mod Places
+mod Ranks
+mod Lone
+mod Slotted
+mod SlotWords
+mod Agree
