@@ -1,18 +1,18 @@
 -- Worked rows: two triangles by keys, as one of two ranks has them.
-use Rattle.std.proofs.Common.{◌≡◌, ℕ, List, [], ◌∷◌, ℤ, pos, negsuc, refl}
-use Rattle.std.specs.Prelude.{flat_map, map}
+use Rattle.std.proofs.Common.{◌≡◌, ℕ, ◌==◌, List, [], ◌∷◌, ◌++◌, ℤ, pos, negsuc, refl}
+use Rattle.std.specs.Prelude.{flat_map, map, filter}
 use Rattle.mesh_defs.specs.declared.Poly.{Poly}
 use Rattle.mesh_defs.specs.declared.Poly.TheVariants.{Vertex, Segment, Triangle}
 use Rattle.mesh_defs.specs.declared.ConeEntry.{ConeEntry}
-use Rattle.plain_lists.specs.Lists.{sorted}
+use Rattle.plain_lists.specs.Lists.{below, sorted}
 use Rattle.mesh_defs.specs.Orientation.{rotations, reflections, orientations, corners_under, act, relative}
 use Rattle.mesh_defs.specs.Mesh.{Cell}
 use Rattle.mesh_defs.specs.Points.{sights_of, first_sight, key, arrangement, contains}
-use Rattle.mesh_defs.specs.Diagram.{stratum, strata, chart, seen_under, entry, cone, Diagram, diagram}
+use Rattle.mesh_defs.specs.Diagram.{stratum, strata, chart, place_in, seen_under, entry, cone, Diagram, diagram}
 use Rattle.plex_defs.proofs.Meshes.{two_triangles}
-use Rattle.rank_defs.specs.Ranks.{assigned}
+use Rattle.rank_defs.specs.Ranks.{rank_of, assigned}
 use Rattle.orient_laws.specs.Named.{keys_of, chart_stratum}
-use Rattle.keyed_laws.specs.Keyed.{KeyedEntry, KeyedPoint, KeyedChart, keyed_entry, keyed_point, keyed_stratum, keyed_chart, keyed_place, numbered, diagram_of_keyed}
+use Rattle.keyed_laws.specs.Keyed.{KeyedEntry, KeyedPoint, KeyedChart, keyed_entry, keyed_point, keyed_stratum, keyed_chart, keyed_place, numbered, diagram_of_keyed, keyed_at}
 
 abbrev told : Poly → ℕ → List KeyedEntry → KeyedPoint
 told poly k covers = record { poly = poly; key = k; covers = covers }
@@ -74,3 +74,26 @@ edges_of_each = refl
 edges_of_both : keys_of (chart_stratum two_triangles (flat_map (λ r. assigned two_triangles (0 ∷ 1 ∷ []) r) (1 ∷ 0 ∷ [])) 1) ≡ 8 ∷ 9 ∷ 10 ∷ 72 ∷ 73 ∷ []
 unfolding sorted sights_of contains stratum chart_stratum assigned
 edges_of_both = refl
+
+-- the points of the second triangle, read off its diagram and keys
+second_read : map (keyed_at second_diagram (64 ∷ 1 ∷ 2 ∷ 3 ∷ 9 ∷ 72 ∷ 73 ∷ [])) (below 7) ≡ second_keyed.cells ++ second_keyed.vertices ++ second_keyed.edges
+unfolding keyed_at
+second_read = refl
+
+-- the numbers of its shared edge and of its last vertex, by place and by key
+by_place : map (place_in (chart two_triangles second)) (record { dim = 1; vertices = 1 ∷ 2 ∷ [] } ∷ record { dim = 0; vertices = 3 ∷ [] } ∷ []) ≡ 4 ∷ 3 ∷ []
+unfolding sorted sights_of contains stratum strata chart
+by_place = refl
+
+by_keys : keyed_place second_keyed 1 9 ∷ keyed_place second_keyed 0 3 ∷ [] ≡ 4 ∷ 3 ∷ []
+unfolding keyed_place
+by_keys = refl
+
+-- where the ranks change triangles, rank 0 is given the edges of the second one by rank 1 alone
+given_edges : map (λ q. keys_of (chart_stratum two_triangles (filter (λ c. rank_of (1 ∷ 0 ∷ []) c == 0) (assigned two_triangles (0 ∷ 1 ∷ []) q)) 1)) (0 ∷ 1 ∷ []) ≡ [] ∷ (9 ∷ 72 ∷ 73 ∷ []) ∷ []
+unfolding sorted sights_of contains stratum chart_stratum assigned
+given_edges = refl
+
+next_edges : keys_of (chart_stratum two_triangles (assigned two_triangles (1 ∷ 0 ∷ []) 0) 1) ≡ 9 ∷ 72 ∷ 73 ∷ []
+unfolding sorted sights_of contains stratum chart_stratum assigned
+next_edges = refl

@@ -21,7 +21,7 @@ use Rattle.orient_laws.proofs.Tops.{chart_stratum-rising}
 
 -- ---- tests over lists of lists
 
-any-flat_map : {X Y : Type 0} (p : Y → Bool) (f : X → List Y) (xs : List X) → list_any p (flat_map f xs) ≡ list_any (λ x. list_any p (f x)) xs
+pub any-flat_map : {X Y : Type 0} (p : Y → Bool) (f : X → List Y) (xs : List X) → list_any p (flat_map f xs) ≡ list_any (λ x. list_any p (f x)) xs
 any-flat_map p f [] = refl
 any-flat_map p f (x ∷ xs) = list_any-append p (f x) (flat_map f xs) ∙ ap (λ t. list_any p (f x) || t) (any-flat_map p f xs)
 
@@ -40,12 +40,12 @@ any-or p q (x ∷ xs) = ap (λ t. (p x || q x) || t) (any-or p q xs) ∙ mixed (
     mixed false false c d = refl
 
 -- two lists are gone over in either order
-any-swap : {X Y : Type 0} (p : X → Y → Bool) (xs : List X) (ys : List Y) → list_any (λ x. list_any (p x) ys) xs ≡ list_any (λ y. list_any (λ x. p x y) xs) ys
+pub any-swap : {X Y : Type 0} (p : X → Y → Bool) (xs : List X) (ys : List Y) → list_any (λ x. list_any (p x) ys) xs ≡ list_any (λ y. list_any (λ x. p x y) xs) ys
 any-swap p [] ys = sym (any-none ys)
 any-swap p (x ∷ xs) ys = ap (λ t. list_any (p x) ys || t) (any-swap p xs ys) ∙ sym (any-or (p x) (λ y. list_any (λ z. p z y) xs) ys)
 
 -- a test beside one that is gone over
-any-and : {X : Type 0} (p : X → Bool) (b : Bool) (xs : List X) → list_any (λ x. p x && b) xs ≡ (list_any p xs && b)
+pub any-and : {X : Type 0} (p : X → Bool) (b : Bool) (xs : List X) → list_any (λ x. p x && b) xs ≡ (list_any p xs && b)
 any-and p b [] = refl
 any-and p b (x ∷ xs) = ap (λ t. (p x && b) || t) (any-and p b xs) ∙ mixed (p x) (list_any p xs) b
   where
@@ -58,24 +58,37 @@ any-and p b (x ∷ xs) = ap (λ t. (p x && b) || t) (any-and p b xs) ∙ mixed (
 
 -- ---- unions
 
+-- Cells from several lists: each test passes among them where it passes among those of some list.
+module _ {X : Type 0} (m : Mesh) (cells : List (ℕ × Cell)) (given : X → List (ℕ × Cell)) (xs : List X) (same : (test : ℕ × Cell → Bool) → list_any test cells ≡ list_any (λ x. list_any test (given x)) xs) (dim : ℕ) where
+  pub given-points : (test : Sight → Bool) → list_any test (chart_stratum m cells dim) ≡ list_any (λ x. list_any test (chart_stratum m (given x) dim)) xs
+  unfolding chart_stratum
+  given-points test =
+      any_filter test (λ s. in_some (point_of s) cells) (stratum m dim)
+      ∙ (any_same (λ s. in_some (point_of s) cells && test s) (λ s. list_any (λ x. in_some (point_of s) (given x) && test s) xs)
+      (λ s. ap (λ b. b && test s) (same (λ (c : ℕ × Cell). contains c.1 (point_of s))) ∙ sym (any-and (λ x. in_some (point_of s) (given x)) (test s) xs)) (stratum m dim)
+      ∙ (any-swap (λ s x. in_some (point_of s) (given x) && test s) (stratum m dim) xs
+      ∙ any_same (λ x. list_any (λ s. in_some (point_of s) (given x) && test s) (stratum m dim)) (λ x. list_any test (filter (λ s. in_some (point_of s) (given x)) (stratum m dim)))
+      (λ x. sym (any_filter test (λ s. in_some (point_of s) (given x)) (stratum m dim))) xs))
+
+  -- a number is a key of them where it is a key of some list
+  pub given-key : (k : ℕ) → list_any (λ j. k == j) (keys_of (chart_stratum m cells dim)) ≡ list_any (λ x. list_any (λ j. k == j) (keys_of (chart_stratum m (given x) dim))) xs
+  given-key k = any_map (λ j. k == j) (λ (s : Sight). s.key) (chart_stratum m cells dim)
+      ∙ (given-points (λ s. k == s.key)
+      ∙ any_same (λ x. list_any (λ (s : Sight). k == s.key) (chart_stratum m (given x) dim)) (λ x. list_any (λ j. k == j) (keys_of (chart_stratum m (given x) dim))) (λ x. sym (any_map (λ j. k == j) (λ (s : Sight). s.key) (chart_stratum m (given x) dim))) xs)
+
+  -- rising numbers with these keys are the keys
+  pub given-keys : (keys : List ℕ) → IsRising keys → ((k : ℕ) → list_any (λ j. k == j) keys ≡ list_any (λ x. list_any (λ j. k == j) (keys_of (chart_stratum m (given x) dim))) xs) → keys ≡ keys_of (chart_stratum m cells dim)
+  given-keys keys rises h = rising-numbers keys (keys_of (chart_stratum m cells dim)) rises (chart_stratum-rising m cells dim) (λ k. h k ∙ sym (given-key k))
+
 module _ (m : Mesh) (parts : List (List (ℕ × Cell))) (dim : ℕ) where
-  union : List (ℕ × Cell)
-  union = flat_map (λ part. part) parts
+  joined : (test : ℕ × Cell → Bool) → list_any test (flat_map (λ part. part) parts) ≡ list_any (λ part. list_any test part) parts
+  joined test = any-flat_map test (λ part. part) parts
 
   pub union-points : (test : Sight → Bool) → list_any test (chart_stratum m (flat_map (λ part. part) parts) dim) ≡ list_any (λ part. list_any test (chart_stratum m part dim)) parts
-  unfolding chart_stratum
-  union-points test =
-      any_filter test (λ s. in_some (point_of s) (flat_map (λ part. part) parts)) (stratum m dim)
-      ∙ (any_same (λ s. in_some (point_of s) (flat_map (λ part. part) parts) && test s) (λ s. list_any (λ part. in_some (point_of s) part && test s) parts)
-      (λ s. ap (λ b. b && test s) (any-flat_map (λ (c : ℕ × Cell). contains c.1 (point_of s)) (λ part. part) parts) ∙ sym (any-and (λ part. in_some (point_of s) part) (test s) parts)) (stratum m dim)
-      ∙ (any-swap (λ s part. in_some (point_of s) part && test s) (stratum m dim) parts
-      ∙ any_same (λ part. list_any (λ s. in_some (point_of s) part && test s) (stratum m dim)) (λ part. list_any test (filter (λ s. in_some (point_of s) part) (stratum m dim)))
-      (λ part. sym (any_filter test (λ s. in_some (point_of s) part) (stratum m dim))) parts))
+  union-points = given-points m (flat_map (λ part. part) parts) (λ part. part) parts joined dim
 
   pub union-keys : (keys : List ℕ) → IsRising keys → ((k : ℕ) → list_any (λ j. k == j) keys ≡ list_any (λ part. list_any (λ j. k == j) (keys_of (chart_stratum m part dim))) parts) → keys ≡ keys_of (chart_stratum m (flat_map (λ part. part) parts) dim)
-  union-keys keys rises h = rising-numbers keys (keys_of (chart_stratum m (flat_map (λ part. part) parts) dim)) rises (chart_stratum-rising m (flat_map (λ part. part) parts) dim)
-      (λ k. h k ∙ (any_same (λ part. list_any (λ j. k == j) (keys_of (chart_stratum m part dim))) (λ part. list_any (λ (s : Sight). k == s.key) (chart_stratum m part dim)) (λ part. any_map (λ j. k == j) (λ (s : Sight). s.key) (chart_stratum m part dim)) parts
-      ∙ (sym (union-points (λ s. k == s.key)) ∙ sym (any_map (λ j. k == j) (λ (s : Sight). s.key) (chart_stratum m (flat_map (λ part. part) parts) dim)))))
+  union-keys = given-keys m (flat_map (λ part. part) parts) (λ part. part) parts joined dim
 
 -- ---- which cells
 
@@ -83,6 +96,11 @@ module _ (m : Mesh) (parts : List (List (ℕ × Cell))) (dim : ℕ) where
 pub chart-same : (m : Mesh) (xs ys : List (ℕ × Cell)) → ((test : ℕ × Cell → Bool) → list_any test xs ≡ list_any test ys) → chart m xs ≡ chart m ys
 unfolding chart
 chart-same m xs ys h = filter_agree (λ s. in_some (point_of s) xs) (λ s. in_some (point_of s) ys) (strata m) (all_from (λ s. in_some (point_of s) xs ≡ in_some (point_of s) ys) (λ s. h (λ (c : ℕ × Cell). contains c.1 (point_of s))) (strata m))
+
+-- and their strata
+pub stratum-same : (m : Mesh) (xs ys : List (ℕ × Cell)) (dim : ℕ) → ((test : ℕ × Cell → Bool) → list_any test xs ≡ list_any test ys) → chart_stratum m xs dim ≡ chart_stratum m ys dim
+unfolding chart_stratum
+stratum-same m xs ys dim h = filter_agree (λ s. in_some (point_of s) xs) (λ s. in_some (point_of s) ys) (stratum m dim) (all_from (λ s. in_some (point_of s) xs ≡ in_some (point_of s) ys) (λ s. h (λ (c : ℕ × Cell). contains c.1 (point_of s))) (stratum m dim))
 
 -- a number below n is one of those
 pub any-below : (n k : ℕ) → k < n → list_any (λ q. k == q) (below n) ≡ true
@@ -100,13 +118,16 @@ module _ (m : Mesh) (n : ℕ) (a : List ℕ) (each : IsAssignment m n a) where
       ∙ any_same (λ q. list_any (λ c. (rank_of a c == q) && test c) (placed_cells m)) (λ q. list_any test (filter (λ c. rank_of a c == q) (placed_cells m))) (λ q. sym (any_filter test (λ c. rank_of a c == q) (placed_cells m))) (below n))
 
   -- the cells that a rank has next, by the ranks that have them
-  given-cells : (b : List ℕ) (r : ℕ) (test : ℕ × Cell → Bool) → list_any test (assigned m b r) ≡ list_any test (flat_map (λ q. filter (λ c. rank_of b c == r) (assigned m a q)) (below n))
+  cells-given : (b : List ℕ) (r : ℕ) (test : ℕ × Cell → Bool) → list_any test (assigned m b r) ≡ list_any (λ q. list_any test (filter (λ c. rank_of b c == r) (assigned m a q))) (below n)
   unfolding assigned
-  given-cells b r test =
+  cells-given b r test =
       any_filter test (λ c. rank_of b c == r) (placed_cells m)
       ∙ (any-by_ranks (λ c. (rank_of b c == r) && test c)
-      ∙ (any_same (λ q. list_any (λ c. (rank_of b c == r) && test c) (assigned m a q)) (λ q. list_any test (filter (λ c. rank_of b c == r) (assigned m a q))) (λ q. sym (any_filter test (λ c. rank_of b c == r) (assigned m a q))) (below n)
-      ∙ sym (any-flat_map test (λ q. filter (λ c. rank_of b c == r) (assigned m a q)) (below n))))
+      ∙ any_same (λ q. list_any (λ c. (rank_of b c == r) && test c) (assigned m a q)) (λ q. list_any test (filter (λ c. rank_of b c == r) (assigned m a q))) (λ q. sym (any_filter test (λ c. rank_of b c == r) (assigned m a q))) (below n))
 
   pub given-chart : (b : List ℕ) (r : ℕ) → chart m (assigned m b r) ≡ chart m (flat_map (λ q. filter (λ c. rank_of b c == r) (assigned m a q)) (below n))
-  given-chart b r = chart-same m (assigned m b r) (flat_map (λ q. filter (λ c. rank_of b c == r) (assigned m a q)) (below n)) (given-cells b r)
+  given-chart b r = chart-same m (assigned m b r) (flat_map (λ q. filter (λ c. rank_of b c == r) (assigned m a q)) (below n))
+      (λ test. cells-given b r test ∙ sym (any-flat_map test (λ q. filter (λ c. rank_of b c == r) (assigned m a q)) (below n)))
+
+  pub next-keys : (b : List ℕ) (r dim : ℕ) (keys : List ℕ) → IsRising keys → ((k : ℕ) → list_any (λ j. k == j) keys ≡ list_any (λ q. list_any (λ j. k == j) (keys_of (chart_stratum m (filter (λ c. rank_of b c == r) (assigned m a q)) dim))) (below n)) → keys ≡ keys_of (chart_stratum m (assigned m b r) dim)
+  next-keys b r dim = given-keys m (assigned m b r) (λ q. filter (λ c. rank_of b c == r) (assigned m a q)) (below n) (cells-given b r) dim

@@ -60,10 +60,16 @@ pub fn unions_have_the_keys_of_their_parts()
 
 /// A chart depends on which cells there are alone, in whatever order and however often.
 pub fn charts_depend_on_which_cells()
-    ensures { (m : Mesh) (xs : List (ℕ × Cell)) (ys : List (ℕ × Cell)) → ((test : ℕ × Cell → Bool) → list_any test xs ≡ list_any test ys) → chart m xs ≡ chart m ys }
+    ensures charts { (m : Mesh) (xs : List (ℕ × Cell)) (ys : List (ℕ × Cell)) → ((test : ℕ × Cell → Bool) → list_any test xs ≡ list_any test ys) → chart m xs ≡ chart m ys }
+    ensures strata { (m : Mesh) (xs : List (ℕ × Cell)) (ys : List (ℕ × Cell)) (dim : ℕ) → ((test : ℕ × Cell → Bool) → list_any test xs ≡ list_any test ys) → chart_stratum m xs dim ≡ chart_stratum m ys dim }
 {}
 
 /// The chart that a rank has after a redistribution is that of the cells which the ranks give it, each of those that it had.
 pub fn ranks_give_each_other_charts()
     ensures { (m : Mesh) (n : ℕ) (a : List ℕ) (b : List ℕ) (r : ℕ) → IsAssignment m n a → chart m (assigned m b r) ≡ chart m (flat_map (λ q. filter (λ c. rank_of b c == r) (assigned m a q)) (below n)) }
+{}
+
+/// Rising numbers that are the keys of the charts of the cells which the ranks give to a rank are the keys of its new chart.
+pub fn ranks_give_each_other_keys()
+    ensures { (m : Mesh) (n : ℕ) (a : List ℕ) (b : List ℕ) (r : ℕ) (dim : ℕ) (keys : List ℕ) → IsAssignment m n a → IsRising keys → ((k : ℕ) → list_any (λ j. k == j) keys ≡ list_any (λ q. list_any (λ j. k == j) (keys_of (chart_stratum m (filter (λ c. rank_of b c == r) (assigned m a q)) dim))) (below n)) → keys ≡ keys_of (chart_stratum m (assigned m b r) dim) }
 {}
