@@ -1,0 +1,3 @@
+pub mod Around
+pub mod Shrinking
+mod LayerRows
