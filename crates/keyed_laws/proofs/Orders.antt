@@ -1,5 +1,5 @@
 -- Points by keys stand one way: in the order of their keys.
-use Rattle.std.proofs.Common.{◌≡◌, ◌⊎◌, ℕ, zero, suc, ◌<◌, List, [], ◌∷◌, map, Contains, refl, sym, ap, ◌∙◌, inl, inr, ⊎_elim, arith}
+use Rattle.std.proofs.Common.{◌≡◌, ◌⊎◌, ℕ, zero, suc, ◌<◌, Bool, true, false, cond, ◌==◌, List, [], ◌∷◌, map, Contains, refl, sym, ap, ◌∙◌, inl, inr, ⊎_elim, arith}
 use Rattle.std.specs.List.{AllByRecursion}
 use Rattle.std.proofs.lemmas.List.Elements.{All-contains_itself, recursion_from_All}
 use Rattle.plain_lists.proofs.Each.{all_filter, all_mapped, all_contained}
@@ -10,7 +10,7 @@ use Rattle.mesh_defs.specs.RightMesh.{in_some}
 use Rattle.sf_defs.specs.Asks.{IsRising}
 use Rattle.orient_laws.specs.Named.{keys_of, chart_stratum}
 use Rattle.orient_laws.proofs.Tops.{key-names}
-use Rattle.keyed_laws.specs.Keyed.{KeyedPoint, point_keys, keyed_point, keyed_stratum, IsKeyedPoint}
+use Rattle.keyed_laws.specs.Keyed.{KeyedPoint, KeyedChart, point_keys, keyed_point, keyed_stratum, keyed_chart, IsKeyedPoint, IsToldChart}
 
 -- ---- what a list has
 
@@ -68,3 +68,18 @@ module _ (m : Mesh) (dim : ℕ) where
   pub stratum-told : (cells : List (ℕ × Cell)) (qs : List KeyedPoint) → AllByRecursion (IsKeyedPoint m dim) qs → point_keys qs ≡ keys_of (chart_stratum m cells dim) → qs ≡ keyed_stratum m cells dim
   unfolding keyed_stratum chart_stratum
   stratum-told cells qs f e = told-alike qs (chart_stratum m cells dim) f (all_filter (Contains (stratum m dim)) (λ s. in_some (point_of s) cells) (stratum m dim) (recursion_from_All (Contains (stratum m dim)) (stratum m dim) (All-contains_itself (stratum m dim)))) e
+
+-- all strata
+pub chart-told : (m : Mesh) (cells : List (ℕ × Cell)) (x : KeyedChart) → IsToldChart m cells x → x ≡ keyed_chart m cells
+unfolding keyed_chart
+chart-told m cells x h = λ i. record {
+  dim = h.dim i;
+  cells = stratum-told m m.dim cells x.cells h.cells.told h.cells.keys i;
+  vertices = stratum-told m 0 cells x.vertices h.vertices.told h.vertices.keys i;
+  faces = faces-told (m.dim == 3) refl i;
+  edges = stratum-told m 1 cells x.edges h.edges.told h.edges.keys i;
+}
+  where
+    faces-told : (b : Bool) → (m.dim == 3) ≡ b → x.faces ≡ cond (m.dim == 3) (keyed_stratum m cells 2) []
+    faces-told true e = let faces = h.faces e in stratum-told m 2 cells x.faces faces.told faces.keys ∙ sym (ap (λ b. cond b (keyed_stratum m cells 2) []) e)
+    faces-told false e = h.no_faces e ∙ sym (ap (λ b. cond b (keyed_stratum m cells 2) []) e)

@@ -1,6 +1,6 @@
 -- Charts by keys: what can be told of points to another rank, which numbers them otherwise and knows no vertices of them.
-use Rattle.std.specs.Prelude.{◌≡◌, ℕ, ◌+◌, ◌-◌, ◌==◌, if◌then◌else◌, List, [], ◌++◌, length, map, slice_index, ℤ, pos, Contains, unwrap_or}
-use Rattle.std.specs.List.{position_or_len}
+use Rattle.std.specs.Prelude.{◌≡◌, ℕ, true, false, ◌+◌, ◌-◌, ◌==◌, if◌then◌else◌, List, [], ◌++◌, length, map, slice_index, ℤ, pos, Contains, unwrap_or}
+use Rattle.std.specs.List.{position_or_len, AllByRecursion}
 use Rattle.mesh_defs.specs.declared.Poly.{Poly}
 use Rattle.mesh_defs.specs.declared.ConeEntry.{ConeEntry}
 use Rattle.plain_lists.specs.Lists.{picked}
@@ -9,7 +9,7 @@ use Rattle.mesh_defs.specs.Mesh.{Mesh, Cell}
 use Rattle.mesh_defs.specs.Points.{Sight, point_on, key}
 use Rattle.mesh_defs.specs.Diagram.{seen_under, stratum, Covering, Diagram}
 use Rattle.plex_defs.specs.Closure.{point_in}
-use Rattle.orient_laws.specs.Named.{chart_stratum}
+use Rattle.orient_laws.specs.Named.{keys_of, chart_stratum}
 
 -- an entry of a cone: the key of the point that is covered, which is one dimension lower, and its orientation
 pub record KeyedEntry : Type 0 where
@@ -63,6 +63,20 @@ pub record IsKeyedPoint (m : Mesh) (dim : ℕ) (q : KeyedPoint) : Type 0 where
   pub sight : Sight
   pub there : Contains (stratum m dim) sight
   pub told : q ≡ keyed_point m sight
+
+-- points of the mesh that have the keys of a stratum, in order
+pub record IsToldStratum (m : Mesh) (these : List (ℕ × Cell)) (dim : ℕ) (points : List KeyedPoint) : Type 0 where
+  pub told : AllByRecursion (IsKeyedPoint m dim) points
+  pub keys : point_keys points ≡ keys_of (chart_stratum m these dim)
+
+-- so for each dimension, where a flat mesh has no faces
+pub record IsToldChart (m : Mesh) (these : List (ℕ × Cell)) (x : KeyedChart) : Type 0 where
+  pub dim : x.dim ≡ m.dim
+  pub cells : IsToldStratum m these m.dim x.cells
+  pub vertices : IsToldStratum m these 0 x.vertices
+  pub faces : (m.dim == 3) ≡ true → IsToldStratum m these 2 x.faces
+  pub no_faces : (m.dim == 3) ≡ false → x.faces ≡ []
+  pub edges : IsToldStratum m these 1 x.edges
 
 -- ---- numbers
 

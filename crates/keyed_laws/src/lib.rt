@@ -13,7 +13,7 @@ ghost use Rattle.mesh_defs.specs.RightMesh.{IsFlatOrSolid, IsSoundMesh, CellsDif
 ghost use Rattle.sf_defs.specs.Asks.{IsRising};
 ghost use Rattle.rank_defs.specs.Ranks.{IsAssignment, rank_of, assigned};
 ghost use Rattle.orient_laws.specs.Named.{keys_of, chart_stratum};
-ghost use Rattle.keyed_laws.specs.Keyed.{KeyedPoint, point_keys, keyed_point, keyed_stratum, keyed_chart, IsKeyedPoint, keyed_place, diagram_of_keyed, keyed_at};
+ghost use Rattle.keyed_laws.specs.Keyed.{KeyedPoint, KeyedChart, point_keys, keyed_point, keyed_stratum, keyed_chart, IsKeyedPoint, IsToldChart, keyed_place, diagram_of_keyed, keyed_at};
 
 // ---- numbers
 
@@ -44,6 +44,11 @@ pub fn keyed_points_stand_one_way()
 /// whoever told of a point, it is told alike.
 pub fn keys_tell_strata()
     ensures { (m : Mesh) (cells : List (ℕ × Cell)) (dim : ℕ) (qs : List KeyedPoint) → AllByRecursion (IsKeyedPoint m dim) qs → point_keys qs ≡ keys_of (chart_stratum m cells dim) → qs ≡ keyed_stratum m cells dim }
+{}
+
+/// Points of a mesh that have the keys of the strata of some cells, in order, make the chart of the cells by keys.
+pub fn told_points_make_charts()
+    ensures { (m : Mesh) (cells : List (ℕ × Cell)) (x : KeyedChart) → IsToldChart m cells x → x ≡ keyed_chart m cells }
 {}
 
 // ---- charts of cells from several lists
