@@ -27,6 +27,7 @@ use Rattle.share_laws.specs.Charts.{vertex_point}
 use Rattle.share_laws.proofs.Own.{HasDim, sight-dims, sound-cells}
 use Rattle.orient_laws.specs.Named.{keys_of, chart_stratum}
 use Rattle.orient_laws.proofs.ByKey.{chart-strata, placed-order}
+use Rattle.reach_laws.proofs.Charts.{chart-members}
 use Rattle.keyed_laws.proofs.Strata.{part, face_part, part-of_dim, faces-of_dim}
 use Rattle.keyed_laws.proofs.Unions.{any-flat_map, any-swap, any-and, any-below, any-by_ranks, given-key, given-keys}
 use Rattle.layer_laws.specs.Around.{cells_at}
@@ -201,6 +202,18 @@ layer-told m n a r k test sound each =
     (λ v. any-by_ranks m n a each (λ (c : ℕ × Cell). contains c.1 (vertex_point v) && test c)
     ∙ any_same (λ q. list_any (λ (c : ℕ × Cell). contains c.1 (vertex_point v) && test c) (assigned m a q)) (λ q. list_any test (filter (λ (c : ℕ × Cell). contains c.1 (vertex_point v)) (assigned m a q))) (λ q. sym (any_filter test (λ (c : ℕ × Cell). contains c.1 (vertex_point v)) (assigned m a q))) (below n))
     (vertices_among (chart m (held_cells m a r k))))))
+
+-- a rank knows cells at a vertex just where it holds it without overlap
+pub cells-held : (m : Mesh) (a : List ℕ) (r v : ℕ) → IsSoundMesh m → list_any (λ c. true) (cells_at m a r v) ≡ list_any (shows (vertex_point v)) (held m a r 0)
+unfolding cells_at held held_cells
+cells-held m a r v sound =
+    any_filter (λ c. true) (λ (c : ℕ × Cell). contains c.1 (vertex_point v)) (assigned m a r)
+    ∙ (any_same (λ (c : ℕ × Cell). contains c.1 (vertex_point v) && true) (λ (c : ℕ × Cell). contains c.1 (vertex_point v)) (λ c. alone (contains c.1 (vertex_point v))) (assigned m a r)
+    ∙ sym (chart-members m (assigned m a r) sound (held-cells m a r 0) (vertex_point v)))
+  where
+    alone : (b : Bool) → (b && true) ≡ b
+    alone true = refl
+    alone false = refl
 
 -- the cells at a vertex, by ranks
 around : Mesh → List ℕ → ℕ → ℕ → List (ℕ × Cell)

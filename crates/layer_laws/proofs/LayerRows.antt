@@ -1,6 +1,7 @@
 -- Worked rows: four squares in a row over two ranks.
-use Rattle.std.proofs.Common.{◌≡◌, ℕ, ◌==◌, List, [], ◌∷◌, map, length, refl}
+use Rattle.std.proofs.Common.{◌≡◌, ℕ, true, false, ◌==◌, List, [], ◌∷◌, map, length, refl}
 use Rattle.std.specs.Prelude.{filter}
+use Rattle.std.specs.List.{list_any}
 use Rattle.plain_lists.specs.Lists.{sorted}
 use Rattle.mesh_defs.specs.Mesh.{Mesh, Cell}
 use Rattle.mesh_defs.specs.Points.{Sight, point_of, sights_of, contains}
@@ -31,6 +32,11 @@ first_vertices = refl
 cells_beside : map (λ v. places (cells_at row halves 1 v)) (2 ∷ 6 ∷ 7 ∷ []) ≡ (2 ∷ []) ∷ [] ∷ (2 ∷ []) ∷ []
 unfolding sorted sights_of contains assigned cells_at
 cells_beside = refl
+
+-- both ranks know cells at vertex 2, rank 0 alone at vertex 1
+holders : map (λ v. map (λ r. list_any (λ c. true) (cells_at row halves r v)) (0 ∷ 1 ∷ [])) (2 ∷ 1 ∷ []) ≡ (true ∷ true ∷ []) ∷ (true ∷ false ∷ []) ∷ []
+unfolding sorted sights_of contains assigned cells_at
+holders = refl
 
 -- one layer is the square beside, two are all squares
 layers : map (λ k. places (held_cells row halves 0 k)) (0 ∷ 1 ∷ 2 ∷ []) ≡ (0 ∷ 1 ∷ []) ∷ (0 ∷ 1 ∷ 2 ∷ []) ∷ (0 ∷ 1 ∷ 2 ∷ 3 ∷ []) ∷ []

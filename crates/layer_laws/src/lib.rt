@@ -3,11 +3,11 @@
 //! Each function below does nothing: its contract is the law, and its proof is the law's.
 #![tactic(auto)]
 
-ghost use Rattle.std.specs.Prelude.{◌≡◌, ◌==◌, ◌+◌, Bool, ℕ, List, Contains, filter, length};
+ghost use Rattle.std.specs.Prelude.{◌≡◌, ◌==◌, ◌+◌, Bool, ℕ, List, Contains, filter, length, true};
 ghost use Rattle.std.specs.List.{list_any};
 ghost use Rattle.plain_lists.specs.Lists.{below};
 ghost use Rattle.mesh_defs.specs.Mesh.{Mesh, Cell, placed_cells};
-ghost use Rattle.mesh_defs.specs.Points.{Sight, point_on, point_of, contains};
+ghost use Rattle.mesh_defs.specs.Points.{Sight, point_on, point_of, shows, contains};
 ghost use Rattle.mesh_defs.specs.Diagram.{chart};
 ghost use Rattle.mesh_defs.specs.RightMesh.{IsFlatOrSolid, IsSoundMesh, CellsDiffer, AreCells, in_some};
 ghost use Rattle.rank_defs.specs.Ranks.{IsAssignment, rank_of, assigned, layer, held_cells, held, owner};
@@ -27,6 +27,11 @@ pub fn charts_have_the_vertices_of_their_cells()
 /// One more layer around some cells is the cells at the vertices of their chart.
 pub fn layers_are_the_cells_at_vertices()
     ensures { (m : Mesh) (cells : List (ℕ × Cell)) → IsSoundMesh m → AreCells m cells → layer m cells ≡ filter (λ c. list_any (λ v. contains c.1 (vertex_point v)) (vertices_among (chart m cells))) (placed_cells m) }
+{}
+
+/// The ranks that know cells at a vertex are those that hold it without overlap.
+pub fn holders_know_cells_at_vertices()
+    ensures { (m : Mesh) (a : List ℕ) (r : ℕ) (v : ℕ) → IsSoundMesh m → list_any (λ c. true) (cells_at m a r v) ≡ list_any (shows (vertex_point v)) (held m a r 0) }
 {}
 
 /// The cells that a rank holds with one more layer are those that the ranks know at the vertices that it holds.
