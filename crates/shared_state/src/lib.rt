@@ -1,0 +1,14 @@
+//! What ranks have of a mesh once they have met: the points that each sees of its own cells, and which of
+//! these are the same.
+//!
+//! A [`Shared`] is made of the [`Scatter`] that the ranks were given, what each rank knows of its points
+//! ([`OwnPoints`]) and the forest of shared points. It only answers questions, none of which takes memory
+//! or searches along a list.
+#![tactic(auto)]
+
+mod own_points;
+mod shared;
+
+pub use own_points::OwnPoints;
+pub use scatter_state::Scatter;
+pub use shared::Shared;
