@@ -1,0 +1,6 @@
+pub mod Wholes
+pub mod Forests
+pub mod Lower
+pub mod Few
+pub mod Right
+mod SetRows

@@ -1,0 +1,30 @@
+//! Laws between the points that ranks see of a mesh and the sets of vertices by which they meet.
+//!
+//! Each function below does nothing: its contract is the law, and its proof is the law's.
+#![tactic(auto)]
+
+ghost use Rattle.std.specs.Prelude.{◌≡◌, ◌<◌, ℕ, List};
+ghost use Rattle.std.specs.List.{AllByRecursion};
+ghost use Rattle.mesh_defs.specs.Mesh.{Mesh};
+ghost use Rattle.mesh_defs.specs.Points.{Sight, point_of};
+ghost use Rattle.mesh_defs.specs.RightMesh.{CellsDiffer, IsRightMesh, IsSoundMesh};
+ghost use Rattle.rank_defs.specs.Ranks.{IsAssignment, IsRightAssignment, assigned};
+ghost use Rattle.rank_defs.specs.Spread.{own_stratum, point_forest};
+ghost use Rattle.share_laws.specs.Charts.{first_holder, own_charts, points_of};
+ghost use Rattle.meeting_laws.specs.Sets.{AreRankCharts, forest_of_sets};
+ghost use Rattle.rank_chart_laws.specs.OwnRanks.{own_rank_charts};
+
+/// A cell is on its own rank alone: the first rank whose chart has it is the rank to which it is assigned.
+pub fn cells_are_on_one_rank()
+    ensures { (m : Mesh) (n : ℕ) (a : List ℕ) (r : ℕ) → IsSoundMesh m → CellsDiffer m → IsAssignment m n a → r < n → AllByRecursion (λ (s : Sight). first_holder (points_of (own_charts m a n)) (point_of s) ≡ r) (own_stratum (assigned m a r) m.dim) }
+{}
+
+/// What the ranks of a right mesh have by their own cells are right charts: the ranks may meet.
+pub fn ranks_of_a_mesh_may_meet()
+    ensures { (m : Mesh) (n : ℕ) (a : List ℕ) → IsRightMesh m → IsRightAssignment m n a → AreRankCharts (own_rank_charts m a n) }
+{}
+
+/// The forest of shared points is that which the sets of vertices below the cells tell.
+pub fn sets_tell_the_shared_points()
+    ensures { (m : Mesh) (n : ℕ) (a : List ℕ) → IsRightMesh m → IsRightAssignment m n a → point_forest m a (own_charts m a n) ≡ forest_of_sets (own_rank_charts m a n) }
+{}
