@@ -1,7 +1,8 @@
 -- Sets that two ranks have are among those that meet.
-use Rattle.std.proofs.Common.{◌≡◌, ◌≢◌, ◌⊎◌, inl, inr, ℕ, ◌<◌, Bool, true, false, not, ◌||◌, ◌==◌, nat_lt, List, [], ◌∷◌, map, length, refl, sym, ap, ap₂, ◌∙◌}
+use Rattle.std.proofs.Common.{◌≡◌, ◌≢◌, ◌⊎◌, inl, inr, ℕ, ◌<◌, Bool, true, false, not, ◌||◌, ◌==◌, nat_lt, List, [], ◌∷◌, map, length, refl, sym, ap, ap₂, ◌∙◌, get_or, take, suc, zero, ◌≤◌, arith, subst}
 use Rattle.std.specs.List.{list_any, list_all, AllByRecursion}
 use Rattle.std.proofs.lemmas.Bool.{eqb-true, eq-eqb, ne_eqb, lt-ltb, or_left, or_right, and_from}
+use Rattle.std.proofs.lemmas.List.Folds.{list_all_at}
 use Rattle.plain_lists.specs.Lists.{below}
 use Rattle.plain_lists.proofs.Each.{all_both}
 use Rattle.plain_lists.proofs.Finding.{any_map}
@@ -61,3 +62,28 @@ module _ (charts : List RankChart) (right : AreRankCharts charts) where
       each v (inl e) g = or_left _ _ (eq-eqb v no_vertex e)
       each v (inr f) (inl e) = or_left _ _ (eq-eqb v no_vertex e)
       each v (inr f) (inr g) = or_right (v == no_vertex) _ (copied r q v low low' ne f g)
+
+-- ---- whether a vertex is copied, from what is looked up
+
+pub copied-then : (charts : List RankChart) (r v owner : ℕ) → owner_at (chart_at charts r) (vertex_place v (chart_at charts r)) ≡ owner → owner ≢ r → not (owner == r) ≡ is_copied charts r v
+unfolding is_copied
+copied-then charts r v owner e ne = ap not (ne_eqb owner r ne) ∙ sym (or_left _ _ (ap not (ne_eqb (owner_at (chart_at charts r) (vertex_place v (chart_at charts r))) r (λ same. ne (sym e ∙ same)))))
+
+pub copied-else : (charts : List RankChart) (r v owner : ℕ) → owner_at (chart_at charts r) (vertex_place v (chart_at charts r)) ≡ owner → owner ≡ r → nat_lt 0 (degree (vertex_forest charts) r (vertex_place v (chart_at charts r))) ≡ is_copied charts r v
+unfolding is_copied
+copied-else charts r v owner e same = sym (ap (λ b. not b || nat_lt 0 (degree (vertex_forest charts) r (vertex_place v (chart_at charts r)))) (eq-eqb (owner_at (chart_at charts r) (vertex_place v (chart_at charts r))) r (e ∙ same)))
+
+-- a vertex that has no copy keeps its set from being shared, and where each has one nothing does
+pub kept-alone : (charts : List RankChart) (r : ℕ) (s : List ℕ) (i : ℕ) → i < length s → get_or s i 0 ≢ no_vertex → is_copied charts r (get_or s i 0) ≡ false → false ≡ may_share charts r s
+unfolding may_share
+kept-alone charts r s i low ne alone = sym (list_all_at (λ v. (v == no_vertex) || is_copied charts r v) s i 0 low (ap₂ (λ a b. a || b) (ne_eqb (get_or s i 0) no_vertex ne) alone))
+
+pub may-be : (charts : List RankChart) (r : ℕ) (s : List ℕ) (i : ℕ) → list_all (λ v. (v == no_vertex) || is_copied charts r v) (take i s) ≡ true → length s ≤ i → true ≡ may_share charts r s
+unfolding may_share
+may-be charts r s i h end = sym (subst (λ l. list_all (λ v. (v == no_vertex) || is_copied charts r v) l ≡ true) (whole i s end) h)
+  where
+    whole : (n : ℕ) (xs : List ℕ) → length xs ≤ n → take n xs ≡ xs
+    whole zero [] h = refl
+    whole (suc n) [] h = refl
+    whole zero (x ∷ xs) h = absurd (omega arith)
+    whole (suc n) (x ∷ xs) h = ap (λ l. x ∷ l) (whole n xs (omega arith))

@@ -86,12 +86,19 @@ all_ids charts = map (meeting_ids charts) (below (length charts))
 
 -- ---- after the meeting
 
--- the leaves of a rank, where `met` are the ids that its candidates met: vertices of others, and sets that others have earlier
-abbrev pub joined_leaves : List RankChart → ℕ → List ℕ → List Leaf
-joined_leaves charts r met =
+-- the vertices of a rank that others own, by their places among all its points
+abbrev pub joined_vertices : List RankChart → ℕ → List Leaf
+joined_vertices charts r =
     let c = chart_at charts r in
     chosen (λ i. not (owner_at c i == r)) (λ i. leaf (c.cells + i) (owner_at c i, (chart_at charts (owner_at c i)).cells + (vertex_home charts c i).1)) (length c.vertices)
-    ++ chosen (λ j. not (get_or met j 0 / 2 ^ 32 == r)) (λ j. leaf (behind c (get_or (candidates charts r) j 0)) (get_or met j 0 / 2 ^ 32, get_or met j 0 % 2 ^ 32)) (length (candidates charts r))
+
+-- its sets that an earlier rank has, where `met` are the ids that its candidates met
+abbrev pub joined_sets : List RankChart → ℕ → List ℕ → List Leaf
+joined_sets charts r met =
+    chosen (λ j. not (get_or met j 0 / 2 ^ 32 == r)) (λ j. leaf (behind (chart_at charts r) (get_or (candidates charts r) j 0)) (get_or met j 0 / 2 ^ 32, get_or met j 0 % 2 ^ 32)) (length (candidates charts r))
+
+abbrev pub joined_leaves : List RankChart → ℕ → List ℕ → List Leaf
+joined_leaves charts r met = joined_vertices charts r ++ joined_sets charts r met
 
 unfoldable pub joined_forest : List RankChart → List (List ℕ) → Forest
 joined_forest charts met = record { roots = map point_count charts; leaves = map (λ r. joined_leaves charts r (get_or met r [])) (below (length charts)) }
