@@ -1,0 +1,9 @@
+use Rattle.std.proofs.Common.{◌≡◌}
+use Rattle.std.specs.List.{filter}
+use Rattle.plain_lists.specs.Lists.{below}
+use Rattle.meeting_laws.specs.Sets.{chart_at}
+use Rattle.meeting_laws.specs.Steps.{may_share, set_at}
+use Rattle.shared_forest.proofs.candidates.candidates.Given as goal
+
+abbrev pub invariant-loop-k : goal.invariant-loop-k
+invariant-loop-k g l = l.places.items ≡ filter (λ k. may_share (g.C.RankCharts.charts l.charts) l.rank (set_at (chart_at (g.C.RankCharts.charts l.charts) l.rank) k)) (below l.k)

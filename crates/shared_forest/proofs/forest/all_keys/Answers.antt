@@ -1,0 +1,16 @@
+use Rattle.std.proofs.Common.{ℕ, List, length, Vec, Global, ap, ◌∙◌, arith}
+use Rattle.plain_lists.specs.Vectors.{lists_of}
+use Rattle.meeting_laws.specs.Sets.{RankChart}
+use Rattle.meeting_laws.specs.Steps.{candidates, meeting_keys, all_keys}
+use Rattle.meeting_laws.proofs.Loops.{lists_count, list_is, made_below}
+use Rattle.shared_forest.proofs.forest.all_keys.Goals as goal
+
+pub bounds-places-rank : goal.bounds-places-rank
+bounds-places-rank g c = omega (arith, c.ranks-rank-end.ensures, c.loop-rank-test.true, lists_count c.args.places.now (candidates (g.C.RankCharts.charts c.args.charts.now)) (length (g.C.RankCharts.charts c.args.charts.now)) c.requires.places)
+
+pub meeting_keys-requires-clause-places : goal.meeting_keys-requires-clause-places
+meeting_keys-requires-clause-places g c = let charts : List RankChart = g.C.RankCharts.charts c.args.charts.now in c.deref.ensures.value ∙ ap (λ (v : Vec ℕ Global). v.items) c.index-places-rank.is ∙ list_is c.args.places.now (candidates charts) (length charts) c.requires.places c.loop-rank.rank c.index-places-rank.result (omega (arith, c.ranks-rank-end.ensures, c.loop-rank-test.true))
+
+pub returns : goal.returns
+unfolding all_keys
+returns g c = made_below (meeting_keys (g.C.RankCharts.charts c.args.charts.now)) c.loop-rank.rank (length (g.C.RankCharts.charts c.args.charts.now)) (lists_of c.loop-rank.keys.items) c.loop-rank.invariant (omega (arith, c.ranks-rank-end.ensures, c.loop-rank-test.false, c.loop-rank.auto.rank-end))

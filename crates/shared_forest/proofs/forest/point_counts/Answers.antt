@@ -1,0 +1,7 @@
+use Rattle.std.proofs.Common.{arith}
+use Rattle.meeting_laws.specs.Sets.{point_count}
+use Rattle.meeting_laws.proofs.Bounds.{of-charts}
+use Rattle.shared_forest.proofs.forest.point_counts.Goals as goal
+
+pub returns : goal.returns
+returns g c = of-charts (g.C.RankCharts.charts c.args.charts.now) point_count c.loop-rank.rank c.loop-rank.counts.items c.loop-rank.invariant (omega (arith, c.ranks-rank-end.ensures, c.loop-rank-test.false, c.loop-rank.auto.rank-end))

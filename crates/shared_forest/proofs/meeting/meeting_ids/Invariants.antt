@@ -1,0 +1,7 @@
+use Rattle.std.proofs.Common.{◌≡◌, map, take}
+use Rattle.meeting_laws.specs.Sets.{chart_at}
+use Rattle.meeting_laws.specs.Steps.{point_id, behind}
+use Rattle.shared_forest.proofs.meeting.meeting_ids.Given as goal
+
+abbrev pub invariant-loop-place : goal.invariant-loop-place
+invariant-loop-place g l = l.ids.items ≡ map (λ k. point_id l.rank (behind (chart_at (g.C.RankCharts.charts l.charts) l.rank) k)) (take l.place-index l.places)

@@ -1,0 +1,8 @@
+use Rattle.std.proofs.Common.{◌≡◌, map}
+use Rattle.plain_lists.specs.Lists.{below}
+use Rattle.plain_lists.specs.Vectors.{lists_of}
+use Rattle.meeting_laws.specs.Steps.{ghost_leaves}
+use Rattle.shared_forest.proofs.vertices.vertex_forest.Given as goal
+
+abbrev pub invariant-loop-rank : goal.invariant-loop-rank
+invariant-loop-rank g l = lists_of l.leaves.items ≡ map (ghost_leaves (g.C.RankCharts.charts l.charts)) (below l.rank)
