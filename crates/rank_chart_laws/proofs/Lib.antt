@@ -3,4 +3,5 @@ pub mod Forests
 pub mod Lower
 pub mod Few
 pub mod Right
+pub mod Given
 mod SetRows
