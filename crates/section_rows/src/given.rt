@@ -13,7 +13,7 @@ use flat_lists::ListsBuilder;
 use mesh_defs::Place;
 use plex_base::{DataField, NoMemory};
 use plex_mesh::Mesh;
-use sf_fabric::Lists;
+use sf_fabric::FlatLists;
 use std::alloc::Global;
 
 /// Puts the values of a row at the end, which is counted from 1; 0 is no row, and has no values.
@@ -37,7 +37,7 @@ fn values_of(
     rows: &DataField,
     table: &RowTable,
     numbers: &[u32],
-) -> Result<Lists<i64>, NoMemory>
+) -> Result<FlatLists<i64>, NoMemory>
     requires table { HasLastRows rows.now.rows (length table.now.places.items) table.now.places.items }
     requires numbers { AllByRecursion (λ n. n < length table.now.places.items) numbers.now }
     ensures { IfOk result (λ lists. given_rows lists ≡ map (last_values rows.now.rows) numbers.now) }
@@ -69,7 +69,7 @@ pub fn rows_of(
     tables: &[RowTable],
     cells: &[u32],
     vertices: &[u32],
-) -> Result<Vec<Lists<i64>>, NoMemory>
+) -> Result<Vec<FlatLists<i64>>, NoMemory>
     requires tables { AreTablesOf mesh.now mesh.now.fields tables.now }
     requires cells { AllByRecursion (λ c. c < length mesh.now.cells) cells.now }
     requires vertices { AllByRecursion (λ v. v < length mesh.now.at) vertices.now }

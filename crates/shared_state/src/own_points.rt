@@ -6,7 +6,7 @@ ghost use Rattle.shared_state.specs.Points.{IsPointData, PointData};
 use plex_base::Dim;
 use plex_label::Label;
 use plex_section::Field;
-use sf_fabric::Lists;
+use sf_fabric::FlatLists;
 use std::marker::Model;
 
 /// What one rank knows of the points of its own cells: cells, vertices, faces, edges. No call takes
@@ -14,7 +14,7 @@ use std::marker::Model;
 #[derive(Debug, Drop)]
 pub struct OwnPoints {
     /// The vertices of each point, rising.
-    sets: Lists<u32>,
+    sets: FlatLists<u32>,
     /// The labels on points of dimension 0, 1, 2 and 3.
     labels: Vec<Label>,
     /// The words of the points in each field.
@@ -34,7 +34,7 @@ impl Model for OwnPoints {
 impl OwnPoints {
     /// Points with these sets of vertices, labels and words. They are fewer than 2^32; there are four
     /// labels, by dimension, and each field has all points.
-    pub fn of(sets: Lists<u32>, labels: Vec<Label>, fields: Vec<Field>) -> OwnPoints
+    pub fn of(sets: FlatLists<u32>, labels: Vec<Label>, fields: Vec<Field>) -> OwnPoints
         requires { IsPointData (record { sets = sets; labels = labels.items; fields = fields.items }) }
         ensures { result ≡ record { sets = sets; labels = labels.items; fields = fields.items } }
     {
