@@ -1,0 +1,5 @@
+pub mod Sums
+pub mod Places
+pub mod Weights
+pub mod Shared
+pub mod Marks
