@@ -1,0 +1,5 @@
+//! Tests of leaves that meet.
+#![tactic(auto)]
+
+#[cfg(test)]
+mod meeting;
