@@ -38,7 +38,11 @@ pub(crate) fn polys_of(alloc: Global, mesh: &Mesh, cells: &[u32]) -> Result<Vec<
 }
 
 /// The vertices of each of these cells.
-pub(crate) fn corners_of(alloc: Global, mesh: &Mesh, cells: &[u32]) -> Result<FlatLists<u32>, NoMemory>
+pub(crate) fn corners_of(
+    alloc: Global,
+    mesh: &Mesh,
+    cells: &[u32],
+) -> Result<FlatLists<u32>, NoMemory>
     requires { AllByRecursion (λ c. c < length mesh.now.cells) cells.now }
     ensures { IfOk result (λ corners. corners ≡ map (λ c. (cell_at mesh.now.cells c).vertices) cells.now) }
 {
