@@ -112,6 +112,74 @@ static void make_forest(uint32_t count) {
     printf("degrees %llu\n", (unsigned long long)sum);
 }
 
+// A star forest: its leaves, their roots by local index, and how many leaves each root has.
+struct Forest {
+    std::vector<std::vector<Leaf>> leaves;
+    std::vector<std::unordered_map<uint32_t, std::pair<uint32_t, uint32_t>>> roots;
+    std::vector<std::vector<uint32_t>> degrees;
+
+    Forest(std::vector<uint32_t> counts, std::vector<std::vector<Leaf>> given) : leaves(std::move(given)), roots(counts.size()) {
+        for (uint32_t count : counts) degrees.emplace_back(count);
+        for (size_t rank = 0; rank < leaves.size(); ++rank) {
+            roots[rank].reserve(leaves[rank].size());
+            for (const Leaf& leaf : leaves[rank]) {
+                if (leaf.rank >= counts.size() || leaf.index >= counts[leaf.rank]) exit(4);
+                if (!roots[rank].emplace(leaf.local, std::pair(leaf.rank, leaf.index)).second) exit(4);
+                ++degrees[leaf.rank][leaf.index];
+            }
+        }
+    }
+};
+
+static Forest lone_forest(uint32_t count) {
+    const uint32_t ranks = 4;
+    std::vector<std::vector<Leaf>> leaves(ranks);
+    for (uint32_t rank = 0; rank < ranks; ++rank)
+        for (uint32_t i = 0; i < count; ++i) leaves[rank].push_back({i, (rank + 1) % ranks, uint32_t(uint64_t(i) * 7919 % count)});
+    return Forest(std::vector<uint32_t>(ranks, count), std::move(leaves));
+}
+
+static Forest compose(const Forest& a, const Forest& b) {
+    std::vector<uint32_t> counts;
+    for (auto& own : a.degrees) counts.push_back(own.size());
+    std::vector<std::vector<Leaf>> leaves(b.leaves.size());
+    for (size_t rank = 0; rank < b.leaves.size(); ++rank)
+        for (const Leaf& leaf : b.leaves[rank]) {
+            auto found = a.roots[leaf.rank].find(leaf.index);
+            if (found != a.roots[leaf.rank].end()) leaves[rank].push_back({leaf.local, found->second.first, found->second.second});
+        }
+    return Forest(std::move(counts), std::move(leaves));
+}
+
+static Forest invert(const Forest& a, const std::vector<uint32_t>& counts) {
+    for (auto& own : a.degrees)
+        for (uint32_t degree : own)
+            if (degree > 1) exit(4);
+    std::vector<std::vector<std::pair<uint32_t, uint32_t>>> leaf_of(a.degrees.size());
+    for (size_t rank = 0; rank < a.degrees.size(); ++rank) leaf_of[rank].resize(a.degrees[rank].size());
+    for (size_t rank = 0; rank < a.leaves.size(); ++rank)
+        for (const Leaf& leaf : a.leaves[rank]) leaf_of[leaf.rank][leaf.index] = {uint32_t(rank), leaf.local};
+    std::vector<std::vector<Leaf>> leaves(a.degrees.size());
+    for (size_t rank = 0; rank < a.degrees.size(); ++rank)
+        for (uint32_t i = 0; i < a.degrees[rank].size(); ++i)
+            if (a.degrees[rank][i] == 1) leaves[rank].push_back({i, leaf_of[rank][i].first, leaf_of[rank][i].second});
+    return Forest(counts, std::move(leaves));
+}
+
+static void print_leaves(const Forest& forest) {
+    uint64_t sum = 0;
+    for (auto& own : forest.leaves)
+        for (const Leaf& leaf : own) sum = 31 * sum + (uint64_t(leaf.local) << 32 | leaf.index) + leaf.rank;
+    printf("leaves %llu\n", (unsigned long long)sum);
+}
+
+static void run_algebra(const std::string& kind, uint32_t count) {
+    Forest forest = lone_forest(count);
+    if (kind == "made") print_leaves(forest);
+    else if (kind == "compose") print_leaves(compose(forest, forest));
+    else print_leaves(invert(forest, std::vector<uint32_t>(4, count)));
+}
+
 static void run_threads(uint32_t ranks) {
     std::vector<std::thread> threads;
     for (uint32_t rank = 0; rank < ranks; ++rank) threads.emplace_back([] {});
@@ -122,6 +190,7 @@ int main(int argc, char** argv) {
     std::string kind = argc > 1 ? argv[1] : "";
     if (kind == "round" && argc == 5) run_round(atoi(argv[2]), atoi(argv[3]), atoi(argv[4]));
     else if (kind == "forest" && argc == 3) make_forest(atoi(argv[2]));
+    else if ((kind == "made" || kind == "compose" || kind == "invert") && argc == 3) run_algebra(kind, atoi(argv[2]));
     else if (kind == "threads" && argc == 3) run_threads(atoi(argv[2]));
     else return 2;
 }

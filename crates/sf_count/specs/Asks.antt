@@ -5,7 +5,7 @@ use Rattle.sf_defs.specs.declared.Op.TheVariants.{Min}
 use Rattle.sf_defs.specs.declared.Ask.{Ask}
 use Rattle.sf_count.specs.declared.wanted.Size.{Size}
 use Rattle.sf_count.specs.declared.wanted.Wanted.{Wanted}
-use Rattle.sf_count.specs.declared.wanted.Wanted.TheVariants.{Round, Threads, Forest}
+use Rattle.sf_count.specs.declared.wanted.Wanted.TheVariants.{Round, Threads, Forest, Made, Composed, Inverted}
 
 -- the least of one of so many words and a number
 abbrev pub IsMin : ℕ → Ask → Type 0
@@ -23,3 +23,6 @@ abbrev pub IsWanted : Wanted → Type 0
 IsWanted (Round size) = IsRunnable size
 IsWanted (Threads size) = IsRunnable size
 IsWanted (Forest leaves) = leaves ≤ 2 ^ 29
+IsWanted (Made leaves) = leaves ≤ 2 ^ 29
+IsWanted (Composed leaves) = leaves ≤ 2 ^ 29
+IsWanted (Inverted leaves) = leaves ≤ 2 ^ 29

@@ -71,3 +71,28 @@ pub(crate) fn forest_text(alloc: Global, leaves: u32) -> Result<String, Trouble>
     }
     Ok(format!(in alloc; "degrees {sum}\n")?)
 }
+
+/// A number with the leaves of a rank mixed in.
+fn own_mixed(forest: &Forest, rank: u32, sum: u64) -> u64
+    requires { rank < length forest.now.roots }
+{
+    let mut sum = sum;
+    for i in 0..forest.leaf_count(rank) {
+        let leaf = forest.leaf(rank, i);
+        let name = u64::from(leaf.local) << 32 | u64::from(leaf.index);
+        sum = sum
+            .wrapping_mul(31)
+            .wrapping_add(name)
+            .wrapping_add(u64::from(leaf.rank));
+    }
+    sum
+}
+
+/// The line `leaves N` with a number mixed from all leaves.
+pub(crate) fn mixed_leaves(alloc: Global, forest: &Forest) -> Result<String, Trouble> {
+    let mut sum = 0;
+    for rank in 0..forest.ranks() {
+        sum = own_mixed(forest, rank, sum);
+    }
+    Ok(format!(in alloc; "leaves {sum}\n")?)
+}

@@ -3,17 +3,20 @@
 //! `sf_count threads RANKS ASKS WORDS` runs the same round with a thread for each rank; what it prints
 //! depends on how they meet.
 //! `sf_count forest LEAVES` makes a star forest of four ranks with so many leaves on each, and prints a
-//! number mixed from its degrees.
+//! number mixed from its degrees. `sf_count made LEAVES` makes one whose roots have one leaf each, `compose`
+//! composes it with itself, `invert` inverts it; they print a number mixed from the leaves.
 //!
 //! It makes the speed and the memory of rounds and forests visible. Its exit status is that of
 //! [`Trouble`], or 0.
 #![tactic(auto)]
 
+mod algebra;
 mod forest;
 mod round;
 mod trouble;
 mod wanted;
 
+use algebra::{composed_text, inverted_text, made_text};
 use forest::forest_text;
 use round::round_text;
 use sf_script::ScriptFabric;
@@ -51,6 +54,9 @@ fn run<R: Env + Print + AllocGlobal + Threads>(rt: &R) -> Result<(), Trouble> {
             round_text(alloc, &mut fabric, size)?
         }
         Wanted::Forest { leaves } => forest_text(alloc, leaves)?,
+        Wanted::Made { leaves } => made_text(alloc, leaves)?,
+        Wanted::Composed { leaves } => composed_text(alloc, leaves)?,
+        Wanted::Inverted { leaves } => inverted_text(alloc, leaves)?,
     };
     let mut out = OutSink::new(rt);
     out.write(text.as_bytes())?;

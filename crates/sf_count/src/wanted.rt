@@ -22,6 +22,10 @@ pub(crate) enum Wanted {
     Threads(Size),
     /// A forest with at most 2^29 leaves on each of four ranks.
     Forest { leaves: u32 },
+    /// Such a forest, each root of which has one leaf: made, composed with itself, or inverted.
+    Made { leaves: u32 },
+    Composed { leaves: u32 },
+    Inverted { leaves: u32 },
 }
 
 /// The most leaves on a rank: roots and leaves of four ranks are fewer than 2^32.
@@ -55,12 +59,18 @@ pub(crate) fn read_wanted(words: &[String]) -> Result<Wanted, Trouble>
                 _ => Err(Trouble::Words),
             }
         }
-        [kind, leaves] if kind.as_str() == "forest" => {
+        [kind, leaves] => {
             let leaves = number(leaves.as_str())?;
             if leaves > MOST_LEAVES {
                 return Err(Trouble::Words);
             }
-            Ok(Wanted::Forest { leaves })
+            match kind.as_str() {
+                "forest" => Ok(Wanted::Forest { leaves }),
+                "made" => Ok(Wanted::Made { leaves }),
+                "compose" => Ok(Wanted::Composed { leaves }),
+                "invert" => Ok(Wanted::Inverted { leaves }),
+                _ => Err(Trouble::Words),
+            }
         }
         _ => Err(Trouble::Words),
     }
