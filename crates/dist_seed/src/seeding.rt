@@ -1,0 +1,53 @@
+//! The first step of a distribution.
+ghost use Rattle.std.specs.Prelude.{◌≡◌, None, length, IfOk, IsSome};
+ghost use Rattle.input_defs.specs.Plans.{misfit};
+ghost use Rattle.input_defs.specs.States.{first_ranks};
+ghost use Rattle.rank_defs.specs.Spread.{IsScatter};
+ghost use Rattle.plan_reader.specs.Drafts.{counts_of, spread_at};
+
+use crate::parts::{Sources, held_cells, parts_of};
+use crate::sections::{dofs_of, sections_of};
+use part_ranks::first_ranks;
+use plan_reader::Plan;
+use plex_base::NoMemory;
+use plex_mesh::Mesh;
+use scatter_state::Scatter;
+use section_rows::tables_of;
+use sf_fabric::Fabric;
+use std::alloc::Global;
+use vertex_owners::vertex_owners;
+
+/// Gives each rank the cells that the plan's first part assigns to it, and what belongs to them: their
+/// vertices with coordinates and owners, the marks on their points, and the rows of data of cells and
+/// vertices. After the first half of `DMPlexDistribute` of PETSc. Owners are found by fetch-and-Min over
+/// the fabric.
+///
+/// The plan begins with a part, and fits the mesh. No round is kept. Fails only for want of memory.
+pub fn seed<F: Fabric>(
+    alloc: Global,
+    mesh: &Mesh,
+    plan: &Plan,
+    fabric: &mut F,
+) -> Result<Scatter, NoMemory>
+    requires part { IsSome (spread_at plan.now.plan.moves 0) }
+    requires fits { misfit plan.now.plan (length mesh.now.cells) ≡ None }
+    ensures scatter { IfOk result (λ s. IsScatter s mesh.now (counts_of plan.now.plan.dofs) (first_ranks mesh.now plan.now.plan) plan.now.plan.ranks) }
+    ensures kept { F.kept fabric.new ≡ F.kept fabric.old }
+{
+    // The mesh and the fields are right: the proof takes this from the calls.
+    let (_dim, _dofs) = (mesh.dim(), plan.dofs());
+    let ranks = first_ranks(alloc, mesh, plan)?;
+    let held = held_cells(alloc, mesh, &ranks, plan.ranks())?;
+    let owners = vertex_owners(alloc, mesh, &ranks, &held, fabric)?;
+    let tables = tables_of(alloc, mesh)?;
+    let from = Sources {
+        mesh,
+        ranks: &ranks,
+        owners: &owners,
+        tables: &tables,
+    };
+    let parts = parts_of(alloc, &from, held)?;
+    let sections = sections_of(alloc, mesh)?;
+    let dofs = dofs_of(alloc, plan)?;
+    Ok(Scatter::of(mesh.cells(), sections, dofs, parts))
+}

@@ -1,0 +1,25 @@
+use Rattle.std.proofs.Common.{◌<◌, length, sym, subst, ◌∙◌}
+use Rattle.std.specs.List.{AllByRecursion}
+use Rattle.rank_marks.specs.Own.{AreTold}
+use Rattle.rank_marks.proofs.Marked.{short-cells, own-fit, vertices-low}
+use Rattle.rank_marks.proofs.own_points.OwnPoints.of.Goals as goal
+
+pub told-requires : goal.told-requires
+told-requires c =
+    let m = c.args.mesh.now in
+    let low = vertices-low (length m.at) c.args.own.now.cells c.vertices.result.now (c.vertices.ensures ∙ c.requires.vertices) in
+    subst (λ n. AllByRecursion (λ v. v < n) c.vertices.result.now) (sym c.vertices-2.ensures) low
+
+pub of-requires : goal.of-requires
+of-requires c = short-cells c.args.mesh.now c.requires.right c.args.own.now.cells c.requires.cells
+
+pub of-requires-2 : goal.of-requires-2
+of-requires-2 c = own-fit c.args.mesh.now c.requires.right c.args.own.now.cells c.requires.cells c.requires.few
+
+pub returns : goal.returns
+returns c = record {
+  own = c.requires.vertices;
+  vertices = coe 0 1 (i. AreTold (c.vertices.ensures i) (c.vertices-2.ensures i) c.in_ok-vertices.vertices.items) c.in_ok-vertices.ensures;
+  sets = c.in_ok-cells.ensures;
+  between = c.in_ok-between.ensures;
+}
