@@ -7,6 +7,7 @@ use Rattle.plain_lists.proofs.Each.{all_at}
 use Rattle.plain_lists.proofs.Filters.{map_map_same}
 use Rattle.plain_lists.proofs.Each.{all_from}
 use Rattle.sf_defs.specs.Forest.{Forest}
+use Rattle.local_points.specs.Points.{local_points}
 use Rattle.rank_defs.specs.Spread.{ScatterPart, SharedPart, PlainScatter, PlainShared}
 use Rattle.scatter_state.specs.Whole.{part_at}
 use Rattle.shared_state.specs.Points.{PointData, joined_part, data_at, shared_at}
@@ -36,9 +37,9 @@ shape-kept s ds f whole e kept = record {
       ap (λ (w : PlainShared). map (λ (p : SharedPart). length p.sets) w.parts) (sym e)
       ∙ map_map_same (λ (p : SharedPart). length p.sets) (λ r. joined_part (part_at s.parts r) (data_at ds r)) (λ r. length (data_at ds r).sets) (below (length s.parts)) (all_from (λ r. length (data_at ds r).sets ≡ length (data_at ds r).sets) (λ r. refl) (below (length s.parts)))
       ∙ ap (λ n. map (λ r. length (data_at ds r).sets) (below n)) (sym kept.ranks)
-      ∙ map-below-length (λ r. length (data_at ds r).sets) (λ (d : PointData). length d.sets) ds (record { sets = []; labels = []; fields = [] }) (λ k low. refl));
+      ∙ map-below-length (λ r. length (data_at ds r).sets) (λ (d : PointData). length d.sets) ds (record { local = local_points []; sets = []; labels = []; fields = [] }) (λ k low. refl));
 }
 
 -- words in each field
 pub fields-kept : (s : PlainScatter) (ds : List PointData) (f : Forest) (whole : PlainShared) → shared_of s ds f ≡ whole → IsWholeShared s ds f → (r : ℕ) → r < length whole.parts → length (shared_at whole.parts r).fields ≡ length s.sections + length s.dofs
-fields-kept s ds f whole e kept r low = ap (λ (p : SharedPart). length p.fields) (sym (part-joined s ds f whole e r low)) ∙ all_at (λ (d : PointData). length d.fields ≡ length s.sections + length s.dofs) ds r (record { sets = []; labels = []; fields = [] }) kept.fields (let low' = rank-given s ds f whole e r low in omega (arith, kept.ranks))
+fields-kept s ds f whole e kept r low = ap (λ (p : SharedPart). length p.fields) (sym (part-joined s ds f whole e r low)) ∙ all_at (λ (d : PointData). length d.fields ≡ length s.sections + length s.dofs) ds r (record { local = local_points []; sets = []; labels = []; fields = [] }) kept.fields (let low' = rank-given s ds f whole e r low in omega (arith, kept.ranks))

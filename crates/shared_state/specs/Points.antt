@@ -1,10 +1,12 @@
 -- What one rank knows of its points once the ranks have met.
 use Rattle.std.specs.Prelude.{◌≡◌, ℕ, ◌^◌, ◌<◌, ℤ, List, [], length, get_or}
 use Rattle.std.specs.List.{AllByRecursion}
+use Rattle.local_points.specs.Points.{Local, local_points}
 use Rattle.rank_defs.specs.Spread.{ScatterPart, SharedPart}
 
--- the vertices of each point, the labels by dimension, and the words of the points in each field
+-- the faces and edges as its cells see them; the vertices of each point, the labels by dimension, and the words of the points in each field
 pub record PointData : Type 0 where
+  pub local : Local
   pub sets : List (List ℕ)
   pub labels : List (List (ℕ × ℤ))
   pub fields : List (List (List ℕ))
@@ -21,7 +23,7 @@ joined_part p d = record { cells = p.cells; vertices = p.vertices; at = p.at; se
 
 -- those of a rank; past the last one nothing is known
 abbrev pub data_at : List PointData → ℕ → PointData
-data_at known rank = get_or known rank (record { sets = []; labels = []; fields = [] })
+data_at known rank = get_or known rank (record { local = local_points []; sets = []; labels = []; fields = [] })
 
 abbrev pub shared_at : List SharedPart → ℕ → SharedPart
 shared_at parts rank = get_or parts rank (record { cells = []; vertices = []; at = []; sets = []; labels = []; fields = [] })

@@ -1,8 +1,9 @@
 -- What all ranks have once they have met.
-use Rattle.std.specs.Prelude.{◌≡◌, ◌+◌, ◌^◌, ◌<◌, List, length, map}
+use Rattle.std.specs.Prelude.{◌≡◌, ℕ, ◌+◌, ◌^◌, ◌<◌, List, length, map}
 use Rattle.std.specs.List.{AllByRecursion}
 use Rattle.plain_lists.specs.Lists.{below}
 use Rattle.sf_defs.specs.Forest.{Forest}
+use Rattle.local_points.specs.Points.{local_points}
 use Rattle.rank_defs.specs.Spread.{ScatterPart, SharedPart, PlainScatter, PlainShared}
 use Rattle.scatter_state.specs.Whole.{part_at}
 use Rattle.shared_state.specs.Points.{PointData, joined_part, data_at}
@@ -15,9 +16,10 @@ shared_parts parts known = map (λ r. joined_part (part_at parts r) (data_at kno
 abbrev pub shared_of : PlainScatter → List PointData → Forest → PlainShared
 shared_of s known forest = record { whole = s.whole; sections = length s.sections; forest = forest; parts = shared_parts s.parts known }
 
--- each rank knows its points, all of which are roots, and has words in each field; 32 bits can count the fields
+-- each rank knows its points, which are those of its cells and all of which are roots, and has words in each field; 32 bits can count the fields
 pub record IsWholeShared (s : PlainScatter) (known : List PointData) (forest : Forest) : Type 0 where
   pub ranks : length known ≡ length s.parts
+  pub local : (r : ℕ) → r < length s.parts → (data_at known r).local ≡ local_points (part_at s.parts r).cells
   pub roots : forest.roots ≡ map (λ (d : PointData). length d.sets) known
   pub fields : AllByRecursion (λ (d : PointData). length d.fields ≡ length s.sections + length s.dofs) known
   pub few_fields : length s.sections + length s.dofs < 2 ^ 32

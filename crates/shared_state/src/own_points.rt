@@ -3,6 +3,7 @@ ghost use Rattle.std.specs.Prelude.{◌≡◌, ◌<◌, [], length, get_or};
 ghost use Rattle.plex_base.specs.Dim.{dim_number};
 ghost use Rattle.shared_state.specs.Points.{IsPointData, PointData};
 
+use local_points::LocalPoints;
 use plex_base::Dim;
 use plex_label::Label;
 use plex_section::Field;
@@ -11,8 +12,10 @@ use std::marker::Model;
 
 /// What one rank knows of the points of its own cells: cells, vertices, faces, edges. No call takes
 /// memory.
-#[derive(Debug, Drop)]
+#[derive(Drop)]
 pub struct OwnPoints {
+    /// The faces and edges as the cells see them.
+    local: LocalPoints,
     /// The vertices of each point, rising.
     sets: FlatLists<u32>,
     /// The labels on points of dimension 0, 1, 2 and 3.
@@ -26,19 +29,25 @@ impl Model for OwnPoints {
 
     ghost Value = { PointData };
 
-    ghost view = { λ p. record { sets = p.sets; labels = p.labels.items; fields = p.fields.items } };
+    ghost view = { λ p. record { local = p.local; sets = p.sets; labels = p.labels.items; fields = p.fields.items } };
 
-    ghost invariant = { λ p. IsPointData (record { sets = p.sets; labels = p.labels.items; fields = p.fields.items }) };
+    ghost invariant = { λ p. IsPointData (record { local = p.local; sets = p.sets; labels = p.labels.items; fields = p.fields.items }) };
 }
 
 impl OwnPoints {
-    /// Points with these sets of vertices, labels and words. They are fewer than 2^32; there are four
-    /// labels, by dimension, and each field has all points.
-    pub fn of(sets: FlatLists<u32>, labels: Vec<Label>, fields: Vec<Field>) -> OwnPoints
-        requires { IsPointData (record { sets = sets; labels = labels.items; fields = fields.items }) }
-        ensures { result ≡ record { sets = sets; labels = labels.items; fields = fields.items } }
+    /// Points with these sets of vertices, labels and words, of which these are the faces and edges. They
+    /// are fewer than 2^32; there are four labels, by dimension, and each field has all points.
+    pub fn of(
+        local: LocalPoints,
+        sets: FlatLists<u32>,
+        labels: Vec<Label>,
+        fields: Vec<Field>,
+    ) -> OwnPoints
+        requires { IsPointData (record { local = local; sets = sets; labels = labels.items; fields = fields.items }) }
+        ensures { result ≡ record { local = local; sets = sets; labels = labels.items; fields = fields.items } }
     {
         OwnPoints {
+            local,
             sets,
             labels,
             fields,
@@ -53,6 +62,13 @@ impl OwnPoints {
         ensures right { IsPointData self.now }
     {
         self.sets.len() as u32
+    }
+
+    /// The faces and edges, as the cells see them.
+    pub fn local(&self) -> &LocalPoints
+        ensures { result.now ≡ self.now.local }
+    {
+        &self.local
     }
 
     /// The vertices of point `p`, rising.

@@ -1,11 +1,13 @@
 //! What all ranks have.
 ghost use Rattle.std.specs.Prelude.{◌≡◌, ℕ, ◌<◌, [], Some, get_or, length, map, slice_get};
 ghost use Rattle.plex_base.specs.Dim.{dim_number};
+ghost use Rattle.local_points.specs.Points.{local_points};
 ghost use Rattle.scatter_state.specs.Parts.{cell_at, number_of};
 ghost use Rattle.shared_state.specs.Points.{shared_at};
 ghost use Rattle.shared_state.specs.Whole.{shared_of, IsShape, IsWholeShared};
 
 use crate::own_points::OwnPoints;
+use local_points::LocalPoints;
 use mesh_defs::Poly;
 use plex_base::Dim;
 use plex_label::Label;
@@ -17,7 +19,7 @@ use std::marker::Model;
 /// The points that ranks see of their own cells, and the forest of shared points, after the first half of
 /// `DMPlexInterpolate` on a distributed `DMPlex`. A point is named by its place on its rank: cells, vertices,
 /// faces, edges. No call takes memory.
-#[derive(Debug, Drop)]
+#[derive(Drop)]
 pub struct Shared {
     scatter: Scatter,
     points: Vec<OwnPoints>,
@@ -116,6 +118,15 @@ impl Shared {
         ensures { result ≡ self.now.sections }
     {
         self.scatter.sections()
+    }
+
+    /// The faces and edges of a rank, as its cells see them: they stand behind its cells and its vertices,
+    /// in this order.
+    pub fn local(&self, rank: u32) -> &LocalPoints
+        requires { rank < length self.now.parts }
+        ensures { result.now ≡ local_points (shared_at self.now.parts rank).cells }
+    {
+        self.points[rank as usize].local()
     }
 
     /// How many points a rank has.
