@@ -2,3 +2,4 @@ pub mod Vertices
 pub mod Parts
 pub mod Asking
 pub mod Owners
+pub mod SeedRows
