@@ -3,3 +3,4 @@ pub mod Places
 pub mod Weights
 pub mod Shared
 pub mod Marks
+pub mod FieldRows
