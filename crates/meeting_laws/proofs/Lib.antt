@@ -5,3 +5,5 @@ pub mod Meeting
 pub mod Joined
 pub mod Loops
 pub mod Bounds
+pub mod RightCharts
+pub mod MeetingRows
