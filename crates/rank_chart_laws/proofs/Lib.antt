@@ -5,3 +5,4 @@ pub mod Few
 pub mod Right
 pub mod Given
 mod SetRows
+pub mod ChartRows
