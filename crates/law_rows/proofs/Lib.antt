@@ -1,0 +1,7 @@
+pub mod Fan
+pub mod SharedRows
+pub mod OrderRows
+pub mod HomeRows
+pub mod KeyedRows
+pub mod TraceRows
+pub mod LayerRows
