@@ -11,10 +11,11 @@ use Rattle.mesh_defs.specs.Diagram.{stratum, strata, chart, seen_under, twist_ke
 use Rattle.mesh_defs.specs.RightMesh.{IsRightMesh, CellsDiffer, AreCells}
 use Rattle.mesh_defs.proofs.RightMeshes.{right-mesh}
 use Rattle.plex_defs.proofs.Meshes.{two_triangles, two_tetrahedra}
+use Rattle.sf_defs.specs.Asks.{IsRising}
 use Rattle.rank_defs.specs.Ranks.{IsRightAssignment, rank_of, assigned}
 use Rattle.rank_defs.proofs.RightRows.{right-assignment}
 use Rattle.orient_laws.specs.Named.{keys_of, chart_stratum}
-use Rattle.keyed_laws.specs.Keyed.{KeyedEntry, KeyedPoint, KeyedChart, keyed_entry, keyed_point, keyed_stratum, keyed_chart, IsToldStratum, IsToldChart}
+use Rattle.keyed_laws.specs.Keyed.{KeyedEntry, KeyedPoint, KeyedChart, point_keys, keyed_entry, keyed_point, keyed_stratum, keyed_chart, IsToldStratum, IsToldChart}
 
 -- ---- what the laws ask
 
@@ -106,6 +107,13 @@ chart_is_told = record { dim = refl; cells = cells_are_told; vertices = vertices
 chart_by_keys : keyed_chart two_triangles (second ∷ []) ≡ told_second
 unfolding sorted sights_of contains stratum chart_stratum first_sight key arrangement rotations reflections orientations corners_under act relative seen_under keyed_entry keyed_point keyed_stratum keyed_chart
 chart_by_keys = refl
+
+-- its edges stand by rising key
+edge_keys : point_keys told_second.edges ≡ 9 ∷ 72 ∷ 73 ∷ []
+edge_keys = refl
+
+edge_keys_rise : IsRising (9 ∷ 72 ∷ 73 ∷ [])
+edge_keys_rise = ((omega arith, (omega arith, tt)), ((omega arith, tt), (tt, tt)))
 
 -- ---- charts of cells in any order
 

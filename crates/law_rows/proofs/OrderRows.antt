@@ -1,5 +1,5 @@
 -- Worked rows of charts in the order of keys.
-use Rattle.std.proofs.Common.{◌≡◌, ℕ, false, [], ◌∷◌, map, Option, Some, None, refl}
+use Rattle.std.proofs.Common.{◌≡◌, ℕ, false, List, [], ◌∷◌, map, Option, Some, None, IsPermutation, refl, arith}
 use Rattle.std.specs.Prelude.{filter_map}
 use Rattle.mesh_defs.specs.declared.Poly.TheVariants.{Segment}
 use Rattle.plain_lists.specs.Lists.{below, sorted}
@@ -7,11 +7,12 @@ use Rattle.mesh_defs.specs.Orientation.{rotations, reflections, orientations, co
 use Rattle.mesh_defs.specs.Points.{Sight, sights_of, first_sight, key, arrangement, contains}
 use Rattle.mesh_defs.specs.Diagram.{stratum, strata, chart, seen_under, twist_key}
 use Rattle.plex_defs.proofs.Meshes.{three_triangles, twisted_hexahedra}
+use Rattle.sf_defs.specs.Asks.{IsRising}
 use Rattle.rank_defs.specs.Ranks.{IsRightAssignment, least, assigned, ranks_at, owner, is_shared, own_key}
 use Rattle.rank_defs.specs.Spread.{own_stratum}
 use Rattle.rank_defs.specs.Home.{by_vertices, shared_points, home_points}
 use Rattle.rank_defs.proofs.RightRows.{right-assignment}
-use Rattle.orient_laws.specs.Named.{keys_of, chart_stratum, own_sight, own_twist, home_part}
+use Rattle.orient_laws.specs.Named.{keys_of, chart_stratum, seen_first, own_sight, own_twist, StandInOrder, home_part}
 use Rattle.law_rows.proofs.Fan.{fan_ranks, edge}
 
 -- ---- keys
@@ -35,10 +36,35 @@ own_cells_of_one : keys_of (own_stratum (assigned three_triangles fan_ranks 1) 2
 unfolding sorted sights_of assigned
 own_cells_of_one = refl
 
+abbrev seen_edge : ℕ → ℕ → ℕ → Sight
+seen_edge k v w = record { key = k; poly = Segment; arrangement = v ∷ w ∷ [] }
+
+-- its edges as they are first seen, in its own order and by key
+abbrev first_seen : List Sight
+first_seen = seen_edge 10 2 0 ∷ seen_edge 73 2 3 ∷ seen_edge 74 3 0 ∷ seen_edge 9 1 2 ∷ seen_edge 137 1 4 ∷ seen_edge 138 4 2 ∷ []
+
+abbrev by_key : List Sight
+by_key = seen_edge 9 1 2 ∷ seen_edge 10 2 0 ∷ seen_edge 73 2 3 ∷ seen_edge 74 3 0 ∷ seen_edge 137 1 4 ∷ seen_edge 138 4 2 ∷ []
+
+edges_first_seen : map (seen_first three_triangles) (own_stratum (assigned three_triangles fan_ranks 1) 1) ≡ first_seen
+unfolding sorted sights_of assigned first_sight seen_first
+edges_first_seen = refl
+
+edges_by_key : chart_stratum three_triangles (assigned three_triangles fan_ranks 1) 1 ≡ by_key
+unfolding sorted sights_of contains stratum chart_stratum assigned
+edges_by_key = refl
+
+-- the fourth one moves to the front
+edges_moved : IsPermutation first_seen by_key
+edges_moved = record { moves = (0, 1) ∷ (1, 2) ∷ (2, 3) ∷ []; below = (omega arith, omega arith, (omega arith, omega arith, (omega arith, omega arith, tt))); is = refl }
+
+keys_rise : IsRising (9 ∷ 10 ∷ 73 ∷ 74 ∷ [])
+keys_rise = ((omega arith, (omega arith, (omega arith, tt))), ((omega arith, (omega arith, tt)), ((omega arith, tt), (tt, tt))))
+
 -- ---- first sights
 
 abbrev seen : ℕ → ℕ → ℕ → Option Sight
-seen k v w = Some (record { key = k; poly = Segment; arrangement = v ∷ w ∷ [] })
+seen k v w = Some (seen_edge k v w)
 
 -- an edge that rank 1 alone has; one that rank 0 sees first; the same as rank 1 sees it
 first_sights : map (first_sight three_triangles) (edge 1 4 ∷ edge 0 2 ∷ []) ≡ seen 137 1 4 ∷ seen 10 2 0 ∷ []
@@ -90,3 +116,6 @@ parts = refl
 words : home_points three_triangles fan_ranks 2 ≡ edge 0 2 ∷ edge 1 2 ∷ []
 unfolding sorted sights_of by_vertices shared_points home_points strata stratum owner is_shared ranks_at contains
 words = refl
+
+words_in_order : StandInOrder (edge 0 2 ∷ edge 1 2 ∷ [])
+words_in_order = ((refl, tt), (tt, tt))
