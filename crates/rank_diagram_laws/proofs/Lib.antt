@@ -1,0 +1,4 @@
+pub mod Charted
+pub mod Inside
+pub mod Coned
+pub mod Fitting
