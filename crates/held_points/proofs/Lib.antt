@@ -1,0 +1,4 @@
+pub mod Orders
+pub mod ByKeys
+pub mod Once
+pub mod Charts
