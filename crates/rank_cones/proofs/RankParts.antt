@@ -1,0 +1,69 @@
+-- What a rank of a mesh has is whole: its parts fit together, and its own points go to their places by key.
+use Rattle.std.proofs.Common.{◌≡◌, ℕ, ◌≤◌, ◌^◌, true, List, refl, sym, ap, ◌∙◌, subst, ⊎_elim, None, Some, arith}
+use Rattle.std.specs.List.{list_any}
+use Rattle.plain_lists.proofs.Each.{all_weaker}
+use Rattle.mesh_defs.specs.Tables.{dim_of}
+use Rattle.mesh_defs.specs.Mesh.{Mesh, Cell}
+use Rattle.mesh_defs.specs.Points.{Point, shows}
+use Rattle.mesh_defs.specs.Diagram.{Diagram, diagram}
+use Rattle.mesh_defs.specs.Sights.{IsEdgeSight}
+use Rattle.mesh_defs.specs.RightMesh.{IsSoundCell, IsRightMesh}
+use Rattle.share_laws.proofs.Own.{sound-cells}
+use Rattle.rank_defs.specs.Ranks.{assigned}
+use Rattle.orient_laws.specs.Named.{chart_stratum, own_twist}
+use Rattle.orient_laws.proofs.Seen.{same_points}
+use Rattle.orient_laws.proofs.Tops.{assigned-cells}
+use Rattle.diagram_laws.specs.Strata.{face_sights, first_twist}
+use Rattle.local_points.specs.Points.{Local, edges_among, local_points}
+use Rattle.local_points.proofs.Strata.{edges-stratum}
+use Rattle.held_points.specs.Held.{Held, held_of}
+use Rattle.rank_diagram_laws.specs.Parts.{Parts, parts_of, parts_diagram, IsEdgePart}
+use Rattle.rank_diagram_laws.proofs.Fitting.{parts-fit, own-twist-by, rank-diagram}
+use Rattle.rank_cones.specs.Assembly.{rank_parts, AreWhole}
+use Rattle.rank_cones.specs.Ranks.{IsRank}
+
+-- the edges that a rank holds are edges that its cells see
+own-edges : (m : Mesh) → IsRightMesh m → (a : List ℕ) (r : ℕ) (q : Point) → list_any (shows q) (chart_stratum m (assigned m a r) 1) ≡ true → list_any (shows q) (edges_among (assigned m a r)) ≡ true
+own-edges m right a r q h =
+    ap (list_any (shows q)) (edges-stratum (assigned m a r) (all_weaker (λ (c : ℕ × Cell). IsSoundCell m c.1) (λ (c : ℕ × Cell). 2 ≤ dim_of c.1.poly)
+    (λ c s. ⊎_elim (λ (flat : m.dim ≡ 2). omega (arith, s.dim)) (λ (solid : m.dim ≡ 3). omega (arith, s.dim)) right.sound.dim) (assigned m a r) (sound-cells m right.sound (assigned m a r) (assigned-cells m a r))))
+    ∙ same_points m (assigned m a r) 1 (λ e. absurd (omega arith)) (assigned-cells m a r) q ∙ h
+
+-- what is at hand, in the words of the mesh
+placed-parts : (m : Mesh) → IsRightMesh m → (a : List ℕ) (r : ℕ) → AreWhole (parts_of m (assigned m a r)) (local_points (assigned m a r)) (held_of m (assigned m a r))
+placed-parts m right a r =
+    let fit = parts-fit m right a r in
+    record {
+      parts = fit;
+      local_is = refl;
+      placed = record {
+        face_moves = refl;
+        edge_moves = refl;
+        faces = fit.faces;
+        edges = all_weaker (IsEdgePart (parts_of m (assigned m a r))) (IsEdgeSight (2 ^ 32)) (λ s e. e.edge) (chart_stratum m (assigned m a r) 1) fit.edges;
+        own = own-edges m right a r;
+      };
+    }
+
+module _ (m : Mesh) (n : ℕ) (a : List ℕ) (r : ℕ) (dim : ℕ) (cells : List (ℕ × Cell)) (vertices : List ℕ) (local : Local) (held : Held) (is : IsRank m n a r dim cells vertices local held) where
+  same-parts : rank_parts dim cells vertices held ≡ parts_of m (assigned m a r)
+  same-parts = λ i. rank_parts (is.dim_is i) (is.cells_are i) (is.vertices_are i) (is.held_is i)
+
+  -- what a rank has is whole
+  pub rank-whole : AreWhole (rank_parts dim cells vertices held) local held
+  rank-whole = subst (λ (h : Held). AreWhole (rank_parts dim cells vertices h) local h) (sym is.held_is)
+      (subst (λ (l : Local). AreWhole (rank_parts dim cells vertices (held_of m (assigned m a r))) l (held_of m (assigned m a r))) (sym is.local_is)
+      (subst (λ (p : Parts). AreWhole p (local_points (assigned m a r)) (held_of m (assigned m a r))) (λ i. rank_parts (sym is.dim_is i) (sym is.cells_are i) (sym is.vertices_are i) (held_of m (assigned m a r))) (placed-parts m is.right a r)))
+
+  -- the first face that a cell sees under no orientation is the own twist
+  twist-here : first_twist held.faces (face_sights cells) ≡ own_twist m a r
+  twist-here = (λ i. first_twist (is.held_is i).faces (face_sights (is.cells_are i))) ∙ sym (own-twist-by m is.right a r)
+
+  -- the diagram of the parts is that of the rank where there is no twist
+  pub draws-whole : (plex : Diagram) → plex ≡ parts_diagram (rank_parts dim cells vertices held) → first_twist held.faces (face_sights cells) ≡ None → (plex ≡ diagram m (assigned m a r)) × (own_twist m a r ≡ None)
+  draws-whole plex e none =
+      let untwisted : own_twist m a r ≡ None = sym twist-here ∙ none in
+      (e ∙ ap parts_diagram same-parts ∙ sym (rank-diagram m is.right a r untwisted), untwisted)
+
+  pub draws-twisted : (key : ℕ) → first_twist held.faces (face_sights cells) ≡ Some key → own_twist m a r ≡ Some key
+  draws-twisted key e = sym twist-here ∙ e

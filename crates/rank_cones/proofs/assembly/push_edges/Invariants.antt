@@ -1,0 +1,7 @@
+use Rattle.std.proofs.Common.{◌≡◌, ◌++◌, map, take}
+use Rattle.rank_diagram_laws.specs.Parts.{edge_part}
+use Rattle.rank_cones.specs.Assembly.{rank_parts}
+use Rattle.rank_cones.proofs.assembly.push_edges.Given as goal
+
+abbrev pub invariant-loop-k : goal.invariant-loop-k
+invariant-loop-k g l = l.plex ≡ record l.initial.plex { points = l.initial.plex.points ++ map (edge_part (rank_parts l.initial.plex.dim (g.C.CellList.cells l.cells) l.vertices l.held)) (take l.k l.held.edges) }

@@ -1,0 +1,13 @@
+//! The oriented cones of what one rank holds, once its points stand by key: the diagram of the rank's cells, or its own twist.
+#![tactic(auto)]
+
+mod assembly;
+mod cones;
+mod drawn;
+mod faces;
+mod sides;
+mod stop;
+mod whole;
+
+pub use drawn::Drawn;
+pub use whole::rank_plex;
