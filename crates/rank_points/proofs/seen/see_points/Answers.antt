@@ -1,0 +1,16 @@
+use Rattle.std.proofs.Common.{◌≡◌, ◌++◌, map, sym, ap, ◌∙◌, subst}
+use Rattle.std.specs.List.{AllByRecursion}
+use Rattle.local_points.specs.Points.{Local, local_points}
+use Rattle.rank_chart_laws.specs.OwnRanks.{set_of}
+use Rattle.rank_points.specs.Seen.{seen_of, IsSmall}
+use Rattle.rank_points.proofs.Small.{faces-small}
+use Rattle.rank_points.proofs.seen.see_points.Goals as goal
+
+pub sets_of-requires : goal.sets_of-requires
+sets_of-requires c = subst (λ (l : Local). AllByRecursion IsSmall l.faces) (sym c.in_ok-local.ensures) (faces-small c.args.part.now.cells)
+
+pub returns : goal.returns
+unfolding seen_of
+returns c =
+    let local : c.in_ok-local.local ≡ local_points c.args.part.now.cells = c.in_ok-local.ensures in
+    λ i. record { local = local i; sets = (c.in_ok-sets.ensures ∙ ap (λ (l : Local). map set_of (l.faces ++ l.edges)) local) i }
