@@ -1,0 +1,5 @@
+pub mod Places
+pub mod Moved
+pub mod Labels
+pub mod Forests
+pub mod Ranks
