@@ -1,0 +1,4 @@
+pub mod Once
+pub mod Apart
+pub mod Cells
+pub mod Adding
