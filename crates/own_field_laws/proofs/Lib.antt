@@ -1,0 +1,5 @@
+pub mod Points
+pub mod Forests
+pub mod Totals
+pub mod Words
+pub mod Given
