@@ -1,0 +1,2 @@
+mod Scatters
+mod Totals
