@@ -1,21 +1,19 @@
 -- The text grows step by step, and is what is known of the whole.
-use Rattle.std.proofs.Common.{◌≡◌, ◌≢◌, ℕ, zero, suc, ◌+◌, ◌-◌, ◌<◌, ◌≤◌, Bool, true, false, cond, if◌then◌else◌, ◌==◌, nat_lt, List, [], ◌∷◌, ◌++◌, length, get_or, take, Option, Some, None, refl, sym, ap, ap₂, ◌∙◌, subst, arith, append_assoc, append-nil, length-append}
+use Rattle.std.proofs.Common.{◌≡◌, ◌≢◌, ℕ, zero, suc, ◌+◌, ◌-◌, ◌<◌, ◌≤◌, Bool, true, false, cond, if◌then◌else◌, ◌==◌, nat_lt, List, [], ◌∷◌, ◌++◌, length, get_or, take, Some, None, refl, sym, ap, ap₂, ◌∙◌, arith, append_assoc, append-nil, length-append}
 use Rattle.std.specs.Prelude.{flat_map}
-use Rattle.std.specs.List.{AllByRecursion}
 use Rattle.std.proofs.Math.Dec.{eqb-suc-zero}
-use Rattle.std.proofs.lemmas.Bool.{eqb-true, eqb-false, eq-eqb, lt-ltb, le-ltb}
+use Rattle.std.proofs.lemmas.Bool.{eqb-true, eq-eqb, lt-ltb, le-ltb}
 use Rattle.std.proofs.lemmas.List.{length-take, take_more, take_all}
 use Rattle.std.proofs.lemmas.Grind.{flat_map-append}
-use Rattle.mesh_defs.specs.Mesh.{Mesh}
 use Rattle.text_defs.specs.Text.{end_line}
 use Rattle.sf_defs.specs.Rounds.{Round}
 use Rattle.input_defs.specs.Further.{full_head}
-use Rattle.input_defs.specs.States.{State, states, before_any_step}
+use Rattle.input_defs.specs.States.{State, states, first_ranks, before_any_step}
 use Rattle.headline_defs.specs.StepText.{Subject, step_lines, step_text, number_round, text_of_steps, whole_text, known_steps, known_text}
 use Rattle.headline_laws.proofs.Steps.{step-own}
-use Rattle.plex_job.specs.Serial.{IsSerial, AreSerial, state_at}
+use Rattle.plex_job.specs.Once.{IsSpreadOnce, state_at}
 use Rattle.plex_job.specs.Begun.{before_step, begun, known}
-use Rattle.plex_job.proofs.Serial.{serial-at}
+use Rattle.plex_job.proofs.Once.{ArePartsAfter, once-after, part-at}
 
 -- ---- lists
 
@@ -34,19 +32,19 @@ get-last (x ∷ xs) y d (suc n) h = get-last xs y d n (omega (arith, h))
 
 module _ (x : Subject) where
   -- more rounds change no step up to those that are there
-  same-lines : (rounds : List Round) (r : Round) (m : Mesh) (n k : ℕ) (steps : List State) → AreSerial m n steps → n + k + 1 ≤ length rounds
+  same-lines : (rounds : List Round) (r : Round) (a : List ℕ) (n k : ℕ) (steps : List State) → ArePartsAfter a n steps → n + k + 1 ≤ length rounds
       → flat_map (step_text x (rounds ++ r ∷ [])) (take k steps) ≡ flat_map (step_text x rounds) (take k steps)
-  same-lines rounds r m n zero steps serial low = refl
-  same-lines rounds r m n (suc k) [] serial low = refl
-  same-lines rounds r m n (suc k) (s ∷ steps) serial low =
-      let within : s.parts + 1 ≤ length rounds = omega (arith, serial.0.parts, low) in
-      ap₂ (λ a b. a ++ b) (step-own x (rounds ++ r ∷ []) rounds s (take-front (s.parts + 1) rounds (r ∷ []) within)) (same-lines rounds r m (n + 1) k steps serial.1 (omega (arith, low)))
+  same-lines rounds r a n zero steps after low = refl
+  same-lines rounds r a n (suc k) [] after low = refl
+  same-lines rounds r a n (suc k) (s ∷ steps) after low =
+      let within : s.parts + 1 ≤ length rounds = omega (arith, after.0.parts, low) in
+      ap₂ (λ a b. a ++ b) (step-own x (rounds ++ r ∷ []) rounds s (take-front (s.parts + 1) rounds (r ∷ []) within)) (same-lines rounds r a (n + 1) k steps after.1 (omega (arith, low)))
 
-  module _ (m : Mesh) (serial : AreSerial m 0 (states x.mesh x.plan)) (home : Round) where
+  module _ (once : IsSpreadOnce x.mesh x.plan) (home : Round) where
     -- the lines of the step that the last of these rounds belongs to
     last-lines : (rounds : List Round) (r : Round) (i : ℕ) → length rounds ≡ i → i < length (states x.mesh x.plan) → step_text x (home ∷ rounds ++ r ∷ []) (state_at x i) ≡ step_lines x (state_at x i) home r
     last-lines rounds r i many low =
-        let parts = (serial-at m 0 (states x.mesh x.plan) i before_any_step serial low).parts in
+        let parts = (part-at (first_ranks x.mesh x.plan) 0 (states x.mesh x.plan) i before_any_step (once-after x.mesh x.plan once) low).parts in
         let place : (state_at x i).parts ≡ suc i = parts ∙ omega arith in
         ap (step_lines x (state_at x i) home) (ap (λ k. number_round (record (state_at x i) { parts = k }) (home ∷ rounds ++ r ∷ [])) place ∙ get-last rounds r _ i (sym many))
 
@@ -69,7 +67,7 @@ module _ (x : Subject) where
         let count : length (q ∷ rounds ++ r ∷ []) ≡ i + 1 = omega (arith, many, length-append (q ∷ rounds) (r ∷ [])) in
         let nonzero : i ≢ 0 = omega (arith, many) in
         let none : before_step x i ≡ [] = ap (λ b. cond b head []) (not_zero i nonzero) in
-        let same : flat_map (step_text x (old ++ r ∷ [])) (take i steps) ≡ flat_map (step_text x old) (take i steps) = same-lines old r m 0 i steps serial (omega (arith, many)) in
+        let same : flat_map (step_text x (old ++ r ∷ [])) (take i steps) ≡ flat_map (step_text x old) (take i steps) = same-lines old r (first_ranks x.mesh x.plan) 0 i steps (once-after x.mesh x.plan once) (omega (arith, many)) in
         let lines : step_text x (old ++ r ∷ []) (state_at x i) ≡ step_lines x (state_at x i) home r = last-lines (q ∷ rounds) r i many low in
         ap (λ k. head ++ flat_map (step_text x (old ++ r ∷ [])) (take k steps)) count
         ∙ ap (λ l. head ++ flat_map (step_text x (old ++ r ∷ [])) l) (take_more steps i before_any_step low)
@@ -84,18 +82,18 @@ module _ (x : Subject) where
 
 -- ---- what is known
 
-known-front : (m : Mesh) (n k : ℕ) (steps : List State) → AreSerial m n steps → known_steps (n + k) steps ≡ take k steps
-known-front m n zero [] serial = refl
-known-front m n (suc k) [] serial = refl
-known-front m n zero (s ∷ steps) serial =
-    let later : nat_lt (n + 0) s.parts ≡ true = lt-ltb (n + 0) s.parts (omega (arith, serial.0.parts)) in
+known-front : (a : List ℕ) (n k : ℕ) (steps : List State) → ArePartsAfter a n steps → known_steps (n + k) steps ≡ take k steps
+known-front a n zero [] after = refl
+known-front a n (suc k) [] after = refl
+known-front a n zero (s ∷ steps) after =
+    let later : nat_lt (n + 0) s.parts ≡ true = lt-ltb (n + 0) s.parts (omega (arith, after.0.parts)) in
     ap (λ b. cond b [] (s ∷ known_steps (n + 0) steps)) later
-known-front m n (suc k) (s ∷ steps) serial =
-    let there : nat_lt (n + suc k) s.parts ≡ false = le-ltb (n + suc k) s.parts (omega (arith, serial.0.parts)) in
+known-front a n (suc k) (s ∷ steps) after =
+    let there : nat_lt (n + suc k) s.parts ≡ false = le-ltb (n + suc k) s.parts (omega (arith, after.0.parts)) in
     let place : n + suc k ≡ n + 1 + k = omega arith in
-    ap (λ b. cond b [] (s ∷ known_steps (n + suc k) steps)) there ∙ ap (λ j. s ∷ known_steps j steps) place ∙ ap (λ l. s ∷ l) (known-front m (n + 1) k steps serial.1)
+    ap (λ b. cond b [] (s ∷ known_steps (n + suc k) steps)) there ∙ ap (λ j. s ∷ known_steps j steps) place ∙ ap (λ l. s ∷ l) (known-front a (n + 1) k steps after.1)
 
-module _ (x : Subject) (m : Mesh) (serial : AreSerial m 0 (states x.mesh x.plan)) (home r : Round) (rounds : List Round) where
+module _ (x : Subject) (once : IsSpreadOnce x.mesh x.plan) (home r : Round) (rounds : List Round) where
   -- the text where each step has its round
   pub whole-known : length (r ∷ rounds) ≡ length (states x.mesh x.plan) → whole_text x (home ∷ r ∷ rounds) ≡ known x home (r ∷ rounds)
   unfolding whole_text known begun
@@ -112,7 +110,7 @@ module _ (x : Subject) (m : Mesh) (serial : AreSerial m 0 (states x.mesh x.plan)
       let n = length (r ∷ rounds) in
       let parts : length (home ∷ r ∷ rounds) - 1 ≡ n = omega arith in
       let nonzero : (length (home ∷ r ∷ rounds) - 1 == 0) ≡ false = ap (λ k. k == 0) parts ∙ eqb-suc-zero (length rounds) in
-      let front : known_steps (length (home ∷ r ∷ rounds) - 1) steps ≡ take n steps = ap (λ k. known_steps k steps) (parts ∙ omega arith) ∙ known-front m 0 n steps serial in
+      let front : known_steps (length (home ∷ r ∷ rounds) - 1) steps ≡ take n steps = ap (λ k. known_steps k steps) (parts ∙ omega arith) ∙ known-front (first_ranks x.mesh x.plan) 0 n steps (once-after x.mesh x.plan once) in
       let many : length (take n steps) ≡ n = omega (arith, length-take n steps, few) in
       (λ i. if nonzero i then None else Some (if length (front i) == length steps then whole_text x (home ∷ r ∷ rounds) else text_of_steps x (home ∷ r ∷ rounds) (front i)))
       ∙ (λ i. Some (if many i == length steps then whole_text x (home ∷ r ∷ rounds) else text_of_steps x (home ∷ r ∷ rounds) (take n steps)))

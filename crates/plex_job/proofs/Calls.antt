@@ -1,5 +1,5 @@
 -- A call that has read its files, and then did what they give.
-use Rattle.std.proofs.Common.{◌≡◌, ℕ, ◌-◌, ◌^◌, ◌<◌, Bool, List, [], ◌∷◌, ◌++◌, Option, None, Result, Ok, Err, refl, sym, ap, ◌∙◌, subst, inl, inr, arith, append-nil}
+use Rattle.std.proofs.Common.{◌≡◌, ℕ, Bool, List, [], ◌++◌, Option, Result, Ok, Err, refl, sym, ap, ◌∙◌, subst, inl, inr, arith, append-nil}
 use Rattle.std.specs.Prelude.{Contains, ◌⊎◌}
 use Rattle.cause_defs.specs.Told.{Told}
 use Rattle.cause_defs.specs.declared.ReportFault.{ReportFault}
@@ -11,7 +11,7 @@ use Rattle.input_defs.specs.declared.Status.TheVariants.{Done, Words, Plan, Read
 use Rattle.input_defs.specs.declared.Status.TheVariants as status
 use Rattle.input_defs.specs.Causes.{◌>>=◌}
 use Rattle.input_defs.specs.Refused.{Task, Refusal, where_even}
-use Rattle.headline_defs.specs.Headline.{Call, Asking, AskedFiles, fitting_given, given, names_asked, AreFirstRounds, AreAllRounds, IsDone, IsRefused, HasFailed, MayBegin, refusing, unread, telling, WritesPart, IsUnwritten, HasCause, status_given, Headline}
+use Rattle.headline_defs.specs.Headline.{Call, Asking, AskedFiles, given, names_asked, AreFirstRounds, AreAllRounds, IsRefused, MayBegin, refusing, unread, telling, WritesPart, HasCause, status_given, Headline}
 use Rattle.report.specs.declared.refusal.Refusal as declared
 use Rattle.report.specs.declared.refusal.Refusal.TheVariants as refusal
 use Rattle.report.specs.Refusals.{refusal_line, refusal_status}
@@ -21,7 +21,7 @@ use Rattle.job_task.specs.Reading.{Gives, refusal_view}
 use Rattle.job_task.proofs.Giving.{some-files}
 use Rattle.plex_job.specs.Seen.{just, seen, seen_alone}
 use Rattle.plex_job.specs.Statuses.{ending}
-use Rattle.plex_job.proofs.Endings.{none-first, failed-cause, rose, failed-complete, refuses}
+use Rattle.plex_job.proofs.Endings.{none-first, failed-cause, rose, refuses}
 
 -- nothing is asked for
 none-asked : {P : Type 0} (name : List ℕ) → Contains [] name → P

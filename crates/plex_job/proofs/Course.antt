@@ -3,30 +3,26 @@ use Rattle.std.proofs.Common.{◌≡◌, ℕ, suc, ◌+◌, ◌<◌, ◌≤◌, 
 use Rattle.std.specs.Prelude.{IsErr, OnOk}
 use Rattle.std.specs.Result.{IsErrAnd}
 use Rattle.std.specs.List.{AllByRecursion}
-use Rattle.std.proofs.lemmas.Result.{err_from_is_err_and}
 use Rattle.std.proofs.Math.Dec.{eqb-suc-zero}
 use Rattle.std.proofs.lemmas.Bool.{eq-eqb}
 use Rattle.plain_lists.proofs.Each.{all_append}
 use Rattle.cause_defs.specs.declared.ReportFault.{ReportFault}
 use Rattle.cause_defs.specs.declared.ReportFault.TheVariants.{NoMemory}
 use Rattle.cause_defs.specs.Reports.{Reports}
-use Rattle.cause_defs.proofs.Reporting.{Reports-none, Reports-then, Reports-stop, Reports-exit, Reports-no_memory}
+use Rattle.cause_defs.proofs.Reporting.{Reports-none, Reports-then, Reports-exit, Reports-no_memory}
 use Rattle.text_defs.specs.Text.{end_line}
 use Rattle.sf_defs.specs.declared.Tag.TheVariants.{Number}
 use Rattle.sf_defs.specs.Rounds.{Round}
 use Rattle.sf_fabric.specs.Kept.{kept_as, kept_with}
-use Rattle.rank_defs.specs.Home.{IsHomeRound, IsNumberRound}
 use Rattle.input_defs.specs.States.{states}
 use Rattle.headline_defs.specs.StepText.{Subject, step_lines}
 use Rattle.report.specs.Delivery.{Delivers}
 use Rattle.report.proofs.Delivering.{Delivers-then, Delivers-failed}
-use Rattle.step_defs.specs.Numbers.{held_numbers}
 use Rattle.dist_number.specs.Drawn.{Drawn, drawn_in}
 use Rattle.plex_job.specs.declared.spreading.Spreading.{Spreading}
-use Rattle.plex_job.specs.Spreading.{IsStepOf}
-use Rattle.serial_dist.specs.OneRank.{on_one_rank}
-use Rattle.plex_job.specs.Serial.{AreSerial, state_at}
-use Rattle.plex_job.specs.Begun.{before_step, begun, known, AreKept, ReportsSteps, DeliversText}
+use Rattle.plex_job.specs.Once.{IsSpreadOnce, IsHome, IsDrawn, state_at}
+use Rattle.plex_job.specs.Spreading.{IsStepOf, printed, numbers_by}
+use Rattle.plex_job.specs.Begun.{before_step, begun, known, ReportsSteps, DeliversText}
 use Rattle.plex_job.proofs.Begun.{begun-next}
 
 none-after : {A : Type 0} (P : Type 0) (r : Result A ReportFault) → IsErr r → OnOk r P
@@ -43,7 +39,7 @@ pub record AreDone {W F : Type 0} (written : W → Option (List ℕ)) (flushed f
     (x : Subject) (home : Round) (i : ℕ) (old now : W) (fabric fabric_now : F) : Type 0 where
   pub rounds : List Round
   pub kept_are : kept fabric_now ≡ kept fabric ++ rounds
-  pub drawn : AllByRecursion (IsNumberRound x.mesh (on_one_rank x.mesh) 1) rounds
+  pub drawn : AllByRecursion (IsDrawn x.mesh x.plan) rounds
   pub count : length rounds ≡ i
   pub reports : Reports written flushed faults alone (Ok (tt {0})) old now (begun x home rounds)
 
@@ -83,7 +79,7 @@ module _ {W F : Type 0} (written : W → Option (List ℕ)) (flushed faults : W 
     reports = subst (Reports written flushed faults alone result old now) (append-nil (begun x home done.rounds)) (Reports-no_memory result [] failed done.reports);
   }
 
-  module _ (serial : AreSerial x.mesh 0 (states x.mesh x.plan)) (r : Round) (drawn : IsNumberRound x.mesh (on_one_rank x.mesh) 1 r) (i : ℕ) (low : i < length (states x.mesh x.plan)) (old mid : W) (fabric fabric_then later : F)
+  module _ (once : IsSpreadOnce x.mesh x.plan) (r : Round) (drawn : IsDrawn x.mesh x.plan r) (i : ℕ) (low : i < length (states x.mesh x.plan)) (old mid : W) (fabric fabric_then later : F)
       (done : Done i old mid fabric fabric_then) (one : kept later ≡ kept fabric_then ++ r ∷ []) where
     abbrev lines : List ℕ
     lines = before_step x i ++ step_lines x (state_at x i) home r
@@ -91,14 +87,14 @@ module _ {W F : Type 0} (written : W → Option (List ℕ)) (flushed faults : W 
     kept-more : kept later ≡ kept fabric ++ (done.rounds ++ r ∷ [])
     kept-more = one ∙ ap (λ l. l ++ r ∷ []) done.kept_are ∙ append_assoc (kept fabric) done.rounds (r ∷ [])
 
-    drawn-more : AllByRecursion (IsNumberRound x.mesh (on_one_rank x.mesh) 1) (done.rounds ++ r ∷ [])
-    drawn-more = all_append (IsNumberRound x.mesh (on_one_rank x.mesh) 1) done.rounds (r ∷ []) done.drawn (drawn, tt)
+    drawn-more : AllByRecursion (IsDrawn x.mesh x.plan) (done.rounds ++ r ∷ [])
+    drawn-more = all_append (IsDrawn x.mesh x.plan) done.rounds (r ∷ []) done.drawn (drawn, tt)
 
     count-more : length (done.rounds ++ r ∷ []) ≡ i + 1
     count-more = omega (arith, length-append done.rounds (r ∷ []), done.count)
 
     text-more : begun x home done.rounds ++ lines ≡ begun x home (done.rounds ++ r ∷ [])
-    text-more = sym (begun-next x x.mesh serial home done.rounds r i done.count low)
+    text-more = sym (begun-next x once home done.rounds r i done.count low)
 
     -- the step's lines are reported after its round
     pub done-next : (new : W) → Reports written flushed faults alone (Ok (tt {0})) mid new lines → Done (i + 1) old new fabric later
@@ -161,13 +157,13 @@ pub later-none : (i : ℕ) (home : Round) → [] ≡ (if i + 1 == 0 then home �
 later-none i home = let place : i + 1 ≡ suc i = omega arith in sym (ap (λ k. if k == 0 then home ∷ [] else []) place ∙ ap (λ b. if b then home ∷ [] else []) (eqb-suc-zero i))
 
 -- what a step is printed of
-pub step-of : (s : Spreading) (i : ℕ) (home latest : Round) (bases : Drawn) (numbers : List (List ℕ)) (rounds before : List Round) → IsHomeRound s.task.now.mesh (on_one_rank s.task.now.mesh) 1 home
-    → IsNumberRound s.task.now.mesh (on_one_rank s.task.now.mesh) 1 latest → bases ≡ drawn_in latest → numbers ≡ held_numbers s.task.now.mesh (on_one_rank s.task.now.mesh) 1 0 bases.bases
+pub step-of : (s : Spreading) (i : ℕ) (home latest : Round) (bases : Drawn) (numbers : List (List ℕ)) (rounds before : List Round) → IsHome (printed s).mesh (printed s).plan home
+    → IsDrawn (printed s).mesh (printed s).plan latest → bases ≡ drawn_in latest → numbers ≡ numbers_by (printed s).mesh (printed s).plan bases.bases
     → rounds ≡ before ++ latest ∷ [] → before ≡ (if i == 0 then home ∷ [] else []) → IsStepOf s i home latest bases numbers rounds
 step-of s i home latest bases numbers rounds before is drawn bases_are numbers_are more shown_are = record {
   home_is = is;
   latest_is = drawn;
   bases_are = bases_are;
-  numbers_are = numbers_are ∙ ap (λ (d : Drawn). held_numbers s.task.now.mesh (on_one_rank s.task.now.mesh) 1 0 d.bases) bases_are;
+  numbers_are = numbers_are ∙ ap (λ (d : Drawn). numbers_by (printed s).mesh (printed s).plan d.bases) bases_are;
   rounds_are = more ∙ ap (λ l. l ++ latest ∷ []) shown_are;
 }

@@ -1,39 +1,34 @@
 -- How calls end, as the headline has it.
-use Rattle.std.proofs.Common.{◌≡◌, ℕ, zero, suc, ◌+◌, ◌-◌, ◌^◌, ◌<◌, ◌≤◌, Bool, true, false, cond, if◌then◌else◌, ◌==◌, List, [], ◌∷◌, ◌++◌, length, take, Option, Some, None, Result, Ok, Err, refl, sym, ap, ◌∙◌, subst, inl, inr, arith, append-nil, append_assoc}
-use Rattle.std.specs.Prelude.{Contains, ◌⊎◌, OnOk}
+use Rattle.std.proofs.Common.{◌≡◌, ℕ, zero, suc, ◌≤◌, Bool, false, if◌then◌else◌, ◌==◌, List, [], ◌∷◌, ◌++◌, length, take, Option, Some, None, Result, Ok, Err, refl, sym, ap, ◌∙◌, subst, inl, inr, arith, append-nil, append_assoc}
+use Rattle.std.specs.Prelude.{◌⊎◌}
 use Rattle.std.specs.List.{AllByRecursion}
 use Rattle.std.proofs.Math.Dec.{eqb-zero-suc}
-use Rattle.std.proofs.lemmas.Bool.{lt-ltb}
-use Rattle.cause_defs.specs.Told.{Told, untold}
 use Rattle.cause_defs.specs.declared.ReportFault.{ReportFault}
 use Rattle.cause_defs.specs.declared.ReportFault.TheVariants as fault
 use Rattle.cause_defs.specs.Faults.{Rises}
 use Rattle.cause_defs.specs.Reports.{OnWrite}
-use Rattle.cause_defs.specs.Written.{appended, AppendsPart, AreFlushed}
+use Rattle.cause_defs.specs.Written.{appended, AppendsPart}
 use Rattle.cause_defs.proofs.Appending.{appended-nil}
 use Rattle.mesh_defs.specs.Mesh.{Mesh}
 use Rattle.mesh_defs.specs.Diagram.{twist_key}
 use Rattle.text_defs.specs.Text.{end_line}
 use Rattle.sf_defs.specs.Rounds.{Round}
-use Rattle.rank_defs.specs.Home.{IsHomeRound, IsNumberRound}
 use Rattle.input_defs.specs.declared.Status.{Status}
 use Rattle.input_defs.specs.declared.Status.TheVariants.{Done, Words, Plan, ReadFault, WriteFault, NoMemory, TooLong}
 use Rattle.input_defs.specs.declared.Status.TheVariants as status
 use Rattle.input_defs.specs.Causes.{◌>>=◌, unless}
-use Rattle.input_defs.specs.Plans.{plan_of}
 use Rattle.input_defs.specs.Refused.{Task, Refusal, or_refuse, twist_refused, where_even}
-use Rattle.input_defs.specs.States.{states, first_ranks}
+use Rattle.input_defs.specs.States.{states}
 use Rattle.headline_defs.specs.Rounds.{Due, due, AreFirst, AreAll}
-use Rattle.headline_defs.specs.StepText.{Subject, whole_text, known_text}
-use Rattle.headline_defs.specs.Headline.{Call, Asking, AskedFiles, AreFiles, fitting_given, given, names_asked, subject_of, due_where, AreFirstRounds, AreAllRounds, HasAnswered, IsDone, IsRefused, HasFailed, IsUnread, MayBegin, refusing, unread, telling, WritesPart, IsUnwritten, HasCause, AreTold, status_given, Headline}
+use Rattle.headline_defs.specs.StepText.{Subject, whole_text}
+use Rattle.headline_defs.specs.Headline.{Call, Asking, AskedFiles, given, subject_of, due_where, AreFirstRounds, AreAllRounds, IsRefused, refusing, telling, WritesPart, HasCause, status_given, Headline}
 use Rattle.report.specs.Delivery.{Delivers}
-use Rattle.job_task.specs.Reading.{IsBuilt, IsOfOneRank}
 use Rattle.plex_job.specs.Seen.{just, seen_alone}
-use Rattle.plex_job.specs.Statuses.{ending, UnlessWriteFault, UnlessAnswer}
-use Rattle.serial_dist.specs.OneRank.{on_one_rank}
-use Rattle.plex_job.specs.Serial.{AreSerial}
+use Rattle.plex_job.specs.Statuses.{ending}
+use Rattle.plex_job.specs.Once.{IsSpreadOnce, IsHome, IsDrawn}
+use Rattle.plex_job.specs.Homes.{KeepsHome}
 use Rattle.plex_job.specs.Begun.{begun, known, AreKept, DeliversText}
-use Rattle.plex_job.proofs.Serial.{states-serial, some-step, due-first, due-all, keys-due}
+use Rattle.plex_job.proofs.Once.{due-first, due-all}
 use Rattle.plex_job.proofs.Begun.{whole-known, text-known}
 
 -- ---- rounds
@@ -50,6 +45,19 @@ all-first_rounds (Ok task) rounds all = all-first task.mesh task.plan.ranks (due
 pub none-first : (given : Result Task Refusal) → AreFirstRounds given []
 none-first (Err refusal) = refl
 none-first (Ok task) = tt
+
+-- the home round is the first that is due, whether the mesh has a twist or not
+home-first : (task : Task) (home : Round) → IsHome task.mesh task.plan home → AreFirstRounds (Ok task) (home ∷ [])
+unfolding due
+home-first task home is = go (where_even task)
+  where
+    go : (even : Result Task Refusal) → AreFirst task.mesh task.plan.ranks (due_where even task) (home ∷ [])
+    go (Err twist) = (is, tt)
+    go (Ok even) = (is, tt)
+
+-- with a twist it is all that is due
+home-all : (task : Task) (refusal : Refusal) (home : Round) → where_even task ≡ Err refusal → IsHome task.mesh task.plan home → AreAllRounds (Ok task) (home ∷ [])
+home-all task refusal home twist is = subst (λ g. AreAll task.mesh task.plan.ranks (due_where g task) (home ∷ [])) (sym twist) (is, tt)
 
 -- ---- parts of texts
 
@@ -127,6 +135,11 @@ module _ {W F : Type 0} (written : W → Option (List ℕ)) (flushed faults : W 
     complete = λ told shelf sink. inr refl;
   }
 
+  -- memory ran out before the text, whether the home round is kept or not
+  pub ran-out-early : (task : Task) → out_then ≡ out → (kept fabric_then ≡ kept fabric) ⊎ ((home : Round) × KeepsHome kept task fabric fabric_then home) → Headline (just (Ok task)) (call NoMemory)
+  ran-out-early task same (inl none) = ran-out (Ok task) [] same (none ∙ sym (append-nil (kept fabric))) (none-first (Ok task))
+  ran-out-early task same (inr (home, keeps)) = ran-out (Ok task) (home ∷ []) same keeps.kept_is (home-first task home keeps.home_is)
+
   -- a refusal, after the rounds that are due with it
   pub refuses : {A : Type 0} (given : Result Task Refusal) (refusal : Refusal) (added : List Round) (result : Result A ReportFault) → (given >>= where_even) ≡ Err refusal → IsRefusing refusal.status
       → kept fabric_then ≡ kept fabric ++ added → AreAllRounds given added → Delivers written flushed faults alone result out out_then refusal.text
@@ -150,43 +163,44 @@ module _ {W F : Type 0} (written : W → Option (List ℕ)) (flushed faults : W 
     complete = λ told shelf sink. failed-complete A e refusal.status (rose A e delivers.cause) sink _;
   }
 
+  -- the refusal of a mesh with a twist
+  pub refuses-twist : {A : Type 0} (task : Task) (key : ℕ) (home : Round) (result : Result A ReportFault) → twist_key task.mesh ≡ Some key → KeepsHome kept task fabric fabric_then home
+      → Delivers written flushed faults alone result out out_then (twist_refused key) → Headline (just (Ok task)) (call (ending result status.Mesh))
+  refuses-twist task key home result twisted keeps delivers = refuses (Ok task) refusal (home ∷ []) result twist tt keeps.kept_is (home-all task refusal home twist keeps.home_is) delivers
+    where
+      refusal : Refusal
+      refusal = record { status = status.Mesh; text = twist_refused key }
+
+      twist : where_even task ≡ Err refusal
+      twist = ap (λ o. or_refuse status.Mesh twist_refused (unless o task)) twisted
+
   -- the text of a task whose mesh has no twist
-  pub tells : {A : Type 0} {mid : F} (task : Task) (home : Round) (result : Result A ReportFault) → IsBuilt task → twist_key task.mesh ≡ None → IsHomeRound task.mesh (on_one_rank task.mesh) 1 home
-      → kept mid ≡ kept fabric ++ home ∷ [] → DeliversText written flushed faults alone kept (subject_of task) home result out out_then mid fabric_then → Headline (just (Ok task)) (call (ending result Done))
-  tells {A} {mid} task home result built even home_is first delivered = go result delivered.kept_are delivered.delivers
+  pub tells : {A : Type 0} {mid : F} (task : Task) (home : Round) (result : Result A ReportFault) → IsSpreadOnce task.mesh task.plan → twist_key task.mesh ≡ None → KeepsHome kept task fabric mid home
+      → DeliversText written flushed faults alone kept (subject_of task) home result out out_then mid fabric_then → Headline (just (Ok task)) (call (ending result Done))
+  tells {A} {mid} task home result once even keeps delivered = go result delivered.kept_are delivered.delivers
     where
       rounds : List Round
       rounds = delivered.rounds
-
-      serial : AreSerial task.mesh 0 (states task.mesh task.plan)
-      serial = states-serial built.bytes task.plan task.mesh built.said built.plan built.fits
-
-      some : 1 ≤ length (states task.mesh task.plan)
-      some = some-step built.bytes task.plan task.mesh built.said
 
       is_even : where_even task ≡ Ok task
       is_even = ap (λ o. or_refuse status.Mesh twist_refused (unless o task)) even
 
       added_are : kept fabric_then ≡ kept mid ++ rounds → kept fabric_then ≡ kept fabric ++ home ∷ rounds
-      added_are are = are ∙ ap (λ l. l ++ rounds) first ∙ append_assoc (kept fabric) (home ∷ []) rounds
+      added_are are = are ∙ ap (λ l. l ++ rounds) keeps.kept_is ∙ append_assoc (kept fabric) (home ∷ []) rounds
 
-      first_are : AllByRecursion (IsNumberRound task.mesh (on_one_rank task.mesh) 1) rounds → length rounds ≤ length (states task.mesh task.plan) → AreFirstRounds (Ok task) (home ∷ rounds)
-      first_are drawn few =
-          subst (λ n. AreFirst task.mesh n (due_where (where_even task) task) (home ∷ rounds)) (sym built.plan.one)
-          (subst (λ g. AreFirst task.mesh 1 (due_where g task) (home ∷ rounds)) (sym is_even) (due-first task.mesh task.plan serial some home rounds home_is drawn few))
+      first_are : AllByRecursion (IsDrawn task.mesh task.plan) rounds → length rounds ≤ length (states task.mesh task.plan) → AreFirstRounds (Ok task) (home ∷ rounds)
+      first_are drawn few = subst (λ g. AreFirst task.mesh task.plan.ranks (due_where g task) (home ∷ rounds)) (sym is_even) (due-first task.mesh task.plan once home rounds keeps.home_is drawn few)
 
-      all_are : AllByRecursion (IsNumberRound task.mesh (on_one_rank task.mesh) 1) rounds → length rounds ≡ length (states task.mesh task.plan) → AreAllRounds (Ok task) (home ∷ rounds)
-      all_are drawn each =
-          subst (λ n. AreAll task.mesh n (due_where (where_even task) task) (home ∷ rounds)) (sym built.plan.one)
-          (subst (λ g. AreAll task.mesh 1 (due_where g task) (home ∷ rounds)) (sym is_even) (due-all task.mesh task.plan serial some home rounds home_is drawn each))
+      all_are : AllByRecursion (IsDrawn task.mesh task.plan) rounds → length rounds ≡ length (states task.mesh task.plan) → AreAllRounds (Ok task) (home ∷ rounds)
+      all_are drawn each = subst (λ g. AreAll task.mesh task.plan.ranks (due_where g task) (home ∷ rounds)) (sym is_even) (due-all task.mesh task.plan once home rounds keeps.home_is drawn each)
 
       whole : (rs : List Round) → length rs ≡ length (states task.mesh task.plan) → known (subject_of task) home rs ≡ whole_text (subject_of task) (home ∷ rs)
-      whole [] each = absurd (omega (arith, each, some))
-      whole (r ∷ rs) each = sym (whole-known (subject_of task) task.mesh serial home r rs each)
+      whole [] each = absurd (omega (arith, each, once.some))
+      whole (r ∷ rs) each = sym (whole-known (subject_of task) once home r rs each)
 
       part : (c : Call) (files : AskedFiles) (rs : List Round) → length rs ≤ length (states task.mesh task.plan) → AppendsPart c.written_before c.written_after (known (subject_of task) home rs) → WritesPart (just (Ok task)) c files (home ∷ rs)
-      part c files [] few p = inl (no-part c.written_before c.written_after (subst (AppendsPart c.written_before c.written_after) (none-known (subject_of task) home some) p))
-      part c files (r ∷ rs) few p = inr (known (subject_of task) home (r ∷ rs), telling task (known (subject_of task) home (r ∷ rs)) is_even (text-known (subject_of task) task.mesh serial home r rs few), p)
+      part c files [] few p = inl (no-part c.written_before c.written_after (subst (AppendsPart c.written_before c.written_after) (none-known (subject_of task) home once.some) p))
+      part c files (r ∷ rs) few p = inr (known (subject_of task) home (r ∷ rs), telling task (known (subject_of task) home (r ∷ rs)) is_even (text-known (subject_of task) once home r rs few), p)
 
       go : (o : Result A ReportFault) → AreKept kept (subject_of task) o mid fabric_then rounds → Delivers written flushed faults alone o out out_then (known (subject_of task) home rounds) → Headline (just (Ok task)) (call (ending o Done))
       go (Ok x) are delivers = record {
@@ -207,10 +221,3 @@ module _ {W F : Type 0} (written : W → Option (List ℕ)) (flushed faults : W 
         cause = failed-cause A _ _ _ _ e Done (part _ _ rounds are.few delivers.prints) (rose A e delivers.cause);
         complete = λ told shelf sink. failed-complete A e Done (rose A e delivers.cause) sink _;
       }
-
--- with a twist the home round is all that is due
-pub twist-all : (task : Task) (refusal : Refusal) (home : Round) → IsBuilt task → where_even task ≡ Err refusal → IsHomeRound task.mesh (on_one_rank task.mesh) 1 home → AreAllRounds (Ok task) (home ∷ [])
-twist-all task refusal home built twist is =
-    subst (λ n. AreAll task.mesh n (due_where (where_even task) task) (home ∷ [])) (sym built.plan.one)
-    (subst (λ g. AreAll task.mesh 1 (due_where g task) (home ∷ [])) (sym twist)
-    (keys-due task.mesh task.plan (states-serial built.bytes task.plan task.mesh built.said built.plan built.fits) (some-step built.bytes task.plan task.mesh built.said) home is))

@@ -1,4 +1,6 @@
-pub mod Serial
+pub mod OneRank
+pub mod Once
+pub mod Giving
 pub mod Begun
 pub mod Endings
 pub mod Course
@@ -7,4 +9,5 @@ pub mod Twists
 pub mod Printing
 pub mod PickLemmas
 pub mod ByPicks
+pub mod Alone
 pub mod ReplayCalls

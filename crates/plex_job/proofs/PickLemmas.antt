@@ -1,9 +1,9 @@
 -- Numbers of picks, one after another.
-use Rattle.std.proofs.Common.{◌≡◌, ℕ, suc, ◌+◌, ◌-◌, ◌^◌, ◌<◌, ◌≤◌, Bool, true, false, not, cond, ◌&&◌, ◌||◌, ◌==◌, List, [], ◌∷◌, ◌++◌, length, get_or, take, drop, Option, Some, None, Ok, Err, refl, sym, ap, ◌∙◌, arith, append_assoc, append-nil}
-use Rattle.std.specs.Prelude.{nat_le, option_map, Result}
+use Rattle.std.proofs.Common.{◌≡◌, ℕ, ◌+◌, ◌-◌, ◌^◌, ◌<◌, ◌≤◌, Bool, true, false, not, cond, ◌&&◌, ◌||◌, ◌==◌, List, [], ◌∷◌, ◌++◌, length, get_or, take, drop, Option, Some, None, Ok, Err, refl, sym, ap, arith, append_assoc}
+use Rattle.std.specs.Prelude.{nat_le}
 use Rattle.std.specs.Result.{result_ok}
 use Rattle.std.specs.List.{list_all, position_or_len}
-use Rattle.std.proofs.lemmas.Bool.{leb-false, leb-true, le-leb, and_parts}
+use Rattle.std.proofs.lemmas.Bool.{leb-false, leb-true, le-leb}
 use Rattle.std.proofs.lemmas.List.{take_rest}
 use Rattle.std.proofs.Math.Nat.{pow-le-pow_right}
 use Rattle.line_defs.specs.Rows.{parts}
@@ -11,9 +11,9 @@ use Rattle.line_defs.specs.Numbers.{is_digit, number_of_digits, numeral}
 use Rattle.scan_defs.specs.declared.NumberFault.TheVariants.{OutOfRange, NotNumber}
 use Rattle.scan_defs.specs.Numbers.{uint_of}
 use Rattle.scan_defs.proofs.Huge.{number_of_digits-lt}
-use Rattle.headline_defs.specs.Picks.{and_more, numerals}
+use Rattle.headline_defs.specs.Picks.{and_more}
 use Rattle.plan_reader.proofs.Lines.{parts_first, parts_none}
-use Rattle.plex_job.specs.Pieces.{parts_left, before_others}
+use Rattle.plex_job.specs.Pieces.{before_others}
 
 module _ (t : List ℕ) where
   abbrev size : ℕ

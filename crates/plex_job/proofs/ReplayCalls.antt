@@ -1,23 +1,24 @@
 -- A replay is a call whose rounds its picks give.
-use Rattle.std.proofs.Common.{◌≡◌, ℕ, ◌-◌, Bool, List, [], ◌∷◌, map, length, take, drop, Option, Some, None, Result, Ok, Err, refl, sym, ap, ◌∙◌, subst}
+use Rattle.std.proofs.Common.{◌≡◌, ℕ, ◌-◌, Bool, List, [], ◌∷◌, ◌++◌, map, length, take, drop, Option, Some, None, Result, Ok, Err, refl, sym, ap, ◌∙◌, subst}
 use Rattle.std.proofs.lemmas.List.{take_rest}
+use Rattle.std.specs.List.{AllByRecursion}
 use Rattle.cause_defs.specs.Told.{Told}
 use Rattle.cause_defs.specs.declared.ReportFault.{ReportFault}
-use Rattle.cause_defs.specs.Faults.{FailsTake}
 use Rattle.text_defs.specs.Refusals.{words_refused}
 use Rattle.sf_defs.specs.Rounds.{Round}
 use Rattle.input_defs.specs.declared.Status.{Status}
 use Rattle.input_defs.specs.declared.Status.TheVariants.{Words, NoMemory}
-use Rattle.input_defs.specs.Refused.{Task, Refusal, refuse}
-use Rattle.headline_defs.specs.Headline.{Call, Asking, Headline, fitting_given, AreFirstRounds}
+use Rattle.input_defs.specs.Refused.{Task, Refusal}
+use Rattle.headline_defs.specs.Headline.{Call, Asking, Headline, fitting_given}
 use Rattle.headline_defs.specs.Tops.{asking_built, asking_built_where, asking_where, picks_in, after_picks, replay_asking_built, AreByPicks, IsReplayBuilt}
 use Rattle.report.specs.declared.refusal.Refusal.TheVariants as refusal
 use Rattle.report.specs.Delivery.{Delivers}
-use Rattle.job_task.proofs.Giving.{given-task-built}
-use Rattle.plex_job.specs.Seen.{just, seen, seen_replay, Replays}
+use Rattle.plex_job.specs.Seen.{seen, seen_replay, Replays}
 use Rattle.plex_job.specs.Statuses.{ending}
 use Rattle.plex_job.proofs.Calls.{refused-call, unread-memory, unread-none}
-use Rattle.plex_job.proofs.ByPicks.{by-picks}
+use Rattle.plex_job.specs.Picked.{picks_told, told_before}
+use Rattle.plex_job.proofs.ByPicks.{IsByPicks, by-picks, told-by}
+use Rattle.plex_job.proofs.Alone.{by-itself}
 
 abbrev IsPicked : (c : Call) → Option (List ℕ) → Asking → Type 0
 IsPicked c picks a = (h : Headline a c) × AreByPicks picks (fitting_given a h.files) h.added
@@ -41,18 +42,16 @@ module _ {S W : Type 0} (file : S → List ℕ → Told (List ℕ)) (shelf_fault
   abbrev call : Status → List Round → Call
   call = seen_replay file shelf_faults last_failed written flushed faults words shelf shelf_then out out_then
 
-  -- over the fabric of the picks
-  pub picked : {F : Type 0} (kept : F → List Round) (fabric fabric_then : F) (rest : List (List ℕ)) (picks : List ℕ) (s : Status) → kept fabric ≡ [] → Some picks ≡ picks_in words → rest ≡ after_picks words
-      → Headline (asking_built rest) (seen file shelf_faults last_failed written flushed faults kept words shelf shelf_then out out_then fabric fabric_then s) → Replays (call s)
-  picked kept fabric fabric_then rest picks s none first others h =
-      let moved = subst (λ k. Headline (asking_built rest) (record (call s (kept fabric_then)) { kept_before = k })) none h in
+  -- over a fabric that is seen with its picks before its rounds
+  pub picked : {F : Type 0} (kept : F → List Round) (fabric fabric_then : F) (rest : List (List ℕ)) (picks told : List ℕ) (rounds : List Round) (s : Status) → kept fabric ≡ picks_told picks ∷ [] → kept fabric_then ≡ told_before told rounds
+      → Some picks ≡ picks_in words → rest ≡ after_picks words → Headline (asking_built rest) (seen file shelf_faults last_failed written flushed faults kept words shelf shelf_then out out_then fabric fabric_then s) → Replays (call s)
+  picked kept fabric fabric_then rest picks told rounds s before after first others h =
+      let a = asking_built rest in
+      let own = by-itself a (seen file shelf_faults last_failed written flushed faults kept words shelf shelf_then out out_then fabric fabric_then s) h in
+      let by = subst (AllByRecursion (IsByPicks picks)) own.kept (told-by picks told rounds h.added (sym after ∙ h.kept ∙ ap (λ l. l ++ h.added) before)) in
       record {
-        rounds = kept fabric_then;
-        replay = is-replay (call s (kept fabric_then)) (asking_built rest) (asked-picks words rest (Some picks) first others) refl (
-          moved,
-          subst (λ p. AreByPicks p (fitting_given (asking_built rest) moved.files) moved.added) first
-              (by-picks picks (fitting_given (asking_built rest) moved.files) moved.added (λ task is. given-task-built rest moved.files.plan moved.files.mesh task is) moved.rounds),
-        );
+        rounds = h.added;
+        replay = is-replay (call s h.added) a (asked-picks words rest (Some picks) first others) refl (own, subst (λ p. AreByPicks p (fitting_given a own.files) own.added) first (by-picks picks (fitting_given a own.files) own.added by own.rounds));
       }
 
   no_kept : Unit {0} → List Round

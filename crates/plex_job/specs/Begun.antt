@@ -5,12 +5,11 @@ use Rattle.cause_defs.specs.declared.ReportFault.{ReportFault}
 use Rattle.cause_defs.specs.Reports.{Reports}
 use Rattle.text_defs.specs.Text.{end_line}
 use Rattle.sf_defs.specs.Rounds.{Round}
-use Rattle.rank_defs.specs.Home.{IsNumberRound}
 use Rattle.input_defs.specs.Further.{full_head}
 use Rattle.input_defs.specs.States.{states}
 use Rattle.headline_defs.specs.StepText.{Subject, text_of_steps}
 use Rattle.report.specs.Delivery.{Delivers}
-use Rattle.serial_dist.specs.OneRank.{on_one_rank}
+use Rattle.plex_job.specs.Once.{IsDrawn}
 
 -- what stands before the lines of step i: the head before the first
 abbrev pub before_step : Subject → ℕ → List ℕ
@@ -28,7 +27,7 @@ known x home rounds = begun x home rounds ++ (if length rounds == length (states
 -- These number rounds have been kept, no more than there are steps, and after an Ok one for each.
 pub record AreKept {F A : Type 0} (kept : F → List Round) (x : Subject) (result : Result A ReportFault) (fabric fabric_then : F) (rounds : List Round) : Type 0 where
   pub kept_are : kept fabric_then ≡ kept fabric ++ rounds
-  pub drawn : AllByRecursion (IsNumberRound x.mesh (on_one_rank x.mesh) 1) rounds
+  pub drawn : AllByRecursion (IsDrawn x.mesh x.plan) rounds
   pub few : length rounds ≤ length (states x.mesh x.plan)
   pub all : OnOk result (length rounds ≡ length (states x.mesh x.plan))
 

@@ -5,7 +5,9 @@
 //! interleaving the first word gives.
 #![tactic(auto)]
 
+mod distributing;
 mod ending;
+mod picked;
 mod picks;
 mod running;
 mod spreading;

@@ -5,7 +5,7 @@ ghost use Rattle.sf_defs.specs.Rounds.{Round as Kept};
 ghost use Rattle.headline_defs.specs.StepText.{step_lines};
 ghost use Rattle.input_defs.specs.States.{states};
 ghost use Rattle.step_report.specs.Conditions.{CanPrint};
-ghost use Rattle.plex_job.specs.Serial.{state_at};
+ghost use Rattle.plex_job.specs.Once.{state_at};
 ghost use Rattle.plex_job.specs.Begun.{before_step};
 ghost use Rattle.plex_job.specs.Spreading.{IsSpread, IsStepOf, printed, printed_at};
 

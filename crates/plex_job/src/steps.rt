@@ -1,7 +1,6 @@
 //! The steps of a plan, one after another.
 ghost use Rattle.sf_defs.specs.Rounds.{Round as Kept};
-ghost use Rattle.rank_defs.specs.Home.{IsHomeRound};
-ghost use Rattle.serial_dist.specs.OneRank.{on_one_rank};
+ghost use Rattle.plex_job.specs.Once.{IsHome};
 ghost use Rattle.plex_job.specs.Begun.{ReportsSteps, DeliversText};
 ghost use Rattle.plex_job.specs.Spreading.{IsSpread, printed};
 
@@ -23,7 +22,7 @@ impl Spreading<'_> {
         fabric: &mut F,
     ) -> Result<(), ReportFault>
         requires spread { IsSpread self.now }
-        requires home { IsHomeRound self.now.task.now.mesh (on_one_rank self.now.task.now.mesh) 1 home }
+        requires home { IsHome (printed self.now).mesh (printed self.now).plan home }
         ensures { ReportsSteps W.written W.flushed W.faults W.counts_failures_alone F.kept (printed self.now) home result out.old out.new fabric.old fabric.new }
     {
         // The home round is shown with the first step.
@@ -48,7 +47,7 @@ impl Spreading<'_> {
         fabric: &mut F,
     ) -> Result<(), ReportFault>
         requires spread { IsSpread self.now }
-        requires home { IsHomeRound self.now.task.now.mesh (on_one_rank self.now.task.now.mesh) 1 home }
+        requires home { IsHome (printed self.now).mesh (printed self.now).plan home }
         ensures { DeliversText W.written W.flushed W.faults W.counts_failures_alone F.kept (printed self.now) home result out.old out.new fabric.old fabric.new }
     {
         self.write_steps(alloc, home, out, fabric)?;

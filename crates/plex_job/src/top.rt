@@ -7,6 +7,7 @@ ghost use Rattle.plex_job.specs.Seen.{seen, seen_replay, Replays};
 ghost use Rattle.plex_job.specs.Statuses.{UnlessFault, UnlessWriteFault, UnlessAnswer};
 
 use crate::ending::ending;
+use crate::picked::PickedFabric;
 use crate::picks::read_picks;
 use crate::running::perform;
 use input_defs::Status;
@@ -14,7 +15,6 @@ use job_task::{Stop, read_task};
 use plex_base::NoMemory;
 use report::{Refusal, write_refusal};
 use sf_fabric::Fabric;
-use sf_script::ScriptFabric;
 use shelf_io::{Shelf, Sink};
 use std::alloc::Global;
 
@@ -102,7 +102,7 @@ pub fn replay<S: Shelf, W: Sink>(
 {
     match first_picks(alloc, words) {
         Ok(Some(picks)) => {
-            let mut fabric = ScriptFabric::new(picks);
+            let mut fabric = PickedFabric::new(picks);
             run_words(alloc, &words[1..], shelf, out, &mut fabric)
         }
         Ok(None) => {

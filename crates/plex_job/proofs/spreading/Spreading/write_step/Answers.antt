@@ -3,7 +3,7 @@ use Rattle.cause_defs.specs.Reports.{Reports}
 use Rattle.cause_defs.proofs.Reporting.{Reports-then, Reports-stop, Reports-exit}
 use Rattle.step_defs.specs.Steps.{plain_step}
 use Rattle.plex_job.specs.Spreading.{printed_at}
-use Rattle.plex_job.proofs.Serial.{states-count}
+use Rattle.plex_job.proofs.Once.{states-count}
 use Rattle.plex_job.proofs.Printing.{lines-same}
 use Rattle.plex_job.proofs.spreading.Spreading.write_step.Goals as goal
 

@@ -1,7 +1,7 @@
 use Rattle.std.proofs.Common.{[], ◌∷◌, ◌++◌, ap, ◌∙◌}
 use Rattle.plain_lists.specs.Vectors.{lists_of}
-use Rattle.plex_job.proofs.Serial.{home-answer}
-use Rattle.plex_job.proofs.running.home_round.Goals as goal
+use Rattle.plex_job.proofs.OneRank.{home-answer}
+use Rattle.plex_job.proofs.distributing.home_round.Goals as goal
 
 pub returns-clause-round : goal.returns-clause-round
 returns-clause-round g c =
