@@ -1,0 +1,4 @@
+mod Building
+pub mod Valued
+pub mod Sourced
+pub mod Routed
