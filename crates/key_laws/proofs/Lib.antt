@@ -1,0 +1,9 @@
+pub mod Sets
+pub mod Rising
+pub mod Puts
+pub mod Charts
+pub mod WordPlaces
+pub mod Stands
+pub mod OwnWords
+pub mod Leaves
+pub mod Told
