@@ -1,0 +1,1 @@
+pub use Rattle.key_laws.specs.Keys
