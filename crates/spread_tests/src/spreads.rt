@@ -1,0 +1,116 @@
+//! Meshes over ranks, step by step.
+ghost use Rattle.std.specs.Prelude.{◌≡◌, true, None, IsSome, IfOk};
+ghost use Rattle.input_defs.specs.Plans.{misfit};
+ghost use Rattle.plan_reader.specs.Drafts.{spread_at};
+ghost use Rattle.spread_tests.specs.Some.{IsSomeScatter};
+
+use crate::meshes::THREE_TRIANGLES;
+use dist_seed::{Scatter, seed};
+use input_defs::Step;
+use interp_share::{Shared, share};
+use mesh_check::{Mesh, accept};
+use msh_reader::read_msh;
+use plan_reader::{Plan, read_plan};
+use plex_base::NoMemory;
+use sf_fabric::Fabric;
+use sf_script::ScriptFabric;
+use std::alloc::Global;
+use std::test::Fail;
+use std::thread::Threads;
+
+/// The mesh of a file.
+fn mesh_of(alloc: Global, file: &str) -> Result<Mesh, Fail> {
+    if file.len() > 10000 {
+        return Err(Fail::from("too long"));
+    }
+    let content = read_msh(alloc, file.as_bytes()).map_err(|_| Fail::from("the file is refused"))?;
+    accept(alloc, content).map_err(|_| Fail::from("the mesh is refused"))
+}
+
+/// A plan.
+fn plan_of(alloc: Global, text: &str) -> Result<Plan, Fail> {
+    if text.len() > 1000 {
+        return Err(Fail::from("too long"));
+    }
+    read_plan(alloc, text.as_bytes()).map_err(|_| Fail::from("the plan is refused"))
+}
+
+/// Whether a plan fits a mesh of so many cells.
+fn fits(plan: &Plan, cells: u32) -> bool
+    ensures { result ≡ true → misfit plan.now.plan cells ≡ None }
+{
+    match plan.fits(cells) {
+        Ok(()) => true,
+        Err(_) => false,
+    }
+}
+
+/// Whether the first step of a plan is a part.
+fn begins_with_part(plan: &Plan) -> bool
+    ensures { result ≡ true → IsSome (spread_at plan.now.plan.moves 0) }
+{
+    if plan.steps() == 0 {
+        return false;
+    }
+    match plan.step(0) {
+        Step::Part => true,
+        Step::Overlap(_) => false,
+    }
+}
+
+/// What ranks are given of a mesh by a plan, where there is memory.
+fn scatter_over<F: Fabric>(
+    alloc: Global,
+    file: &str,
+    plan: &str,
+    fabric: &mut F,
+) -> Result<Result<Scatter, NoMemory>, Fail>
+    ensures { IfOk result (λ found. IfOk found (λ s. IsSomeScatter s)) }
+{
+    let mesh = mesh_of(alloc, file)?;
+    let plan = plan_of(alloc, plan)?;
+    if !fits(&plan, mesh.cells()) {
+        return Err(Fail::from("the plan does not fit"));
+    }
+    if !begins_with_part(&plan) {
+        return Err(Fail::from("the plan begins with no part"));
+    }
+    Ok(seed(alloc, &mesh, &plan, fabric))
+}
+
+/// What ranks are given of the three triangles by a plan, where a script makes these picks.
+pub(crate) fn scatter_of(alloc: Global, plan: &str, picks: &[u32]) -> Result<Scatter, Fail> {
+    let mut fabric = ScriptFabric::new(Vec::from_slice(alloc, picks)?);
+    let scatter = scatter_over(alloc, THREE_TRIANGLES, plan, &mut fabric)?;
+    let scatter = scatter.map_err(|_| Fail::from("no memory"))?;
+    if fabric.kept().len() != 0 {
+        return Err(Fail::from("a round is kept"));
+    }
+    Ok(scatter)
+}
+
+/// The points of ranks, and which of them are the same, where there is memory.
+pub(crate) fn shared_over<R: Threads + Sync, F: Fabric>(
+    rt: &R,
+    alloc: Global,
+    file: &str,
+    plan: &str,
+    fabric: &mut F,
+) -> Result<Result<Shared, NoMemory>, Fail> {
+    match scatter_over(alloc, file, plan, fabric)? {
+        Ok(scatter) => Ok(share(rt, alloc, scatter, fabric)),
+        Err(NoMemory) => Ok(Err(NoMemory)),
+    }
+}
+
+/// The same where a script makes no picks.
+pub(crate) fn shared_of<R: Threads + Sync>(
+    rt: &R,
+    alloc: Global,
+    file: &str,
+    plan: &str,
+) -> Result<Shared, Fail> {
+    let mut fabric = ScriptFabric::new(Vec::new(alloc));
+    let shared = shared_over(rt, alloc, file, plan, &mut fabric)?;
+    shared.map_err(|_| Fail::from("no memory"))
+}
