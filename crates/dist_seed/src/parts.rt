@@ -10,8 +10,8 @@ ghost use Rattle.dist_seed.specs.Parts.{part_given};
 
 use plex_base::NoMemory;
 use plex_mesh::Mesh;
-use rank_cells::{CellLists, RankCells, rank_cells};
-use rank_marks::{RankMarks, rank_marks};
+use rank_cells::{RankCells, rank_cells};
+use rank_marks::rank_marks;
 use scatter_state::{PartLists, RankPart};
 use section_rows::{RowTable, rows_of};
 use std::alloc::Global;
@@ -76,25 +76,15 @@ fn part_of(
     let owners = owners_at(alloc, from.owners, &lists.vertices)?;
     let at = coordinates_of(alloc, from.mesh, &lists.vertices)?;
     let rows = rows_of(alloc, from.mesh, from.tables, &lists.cells, &lists.vertices)?;
-    let CellLists {
-        cells,
-        polys,
-        corners,
-        vertices,
-    } = lists;
-    let RankMarks {
-        heads,
-        vertices: mark_vertices,
-    } = marks;
     Ok(RankPart::of(PartLists {
-        cells,
-        polys,
-        corners,
-        vertices,
+        cells: lists.cells,
+        polys: lists.polys,
+        corners: lists.corners,
+        vertices: lists.vertices,
         owners,
         at,
-        marks: heads,
-        mark_vertices,
+        marks: marks.heads,
+        mark_vertices: marks.vertices,
         rows,
     }))
 }

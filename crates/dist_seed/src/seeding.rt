@@ -1,9 +1,9 @@
 //! The first step of a distribution.
-ghost use Rattle.std.specs.Prelude.{◌≡◌, None, length, IfOk, IsSome};
+ghost use Rattle.std.specs.Prelude.{◌≡◌, None, length, IfOk};
 ghost use Rattle.input_defs.specs.Plans.{misfit};
 ghost use Rattle.input_defs.specs.States.{first_ranks};
 ghost use Rattle.rank_defs.specs.Spread.{IsScatter};
-ghost use Rattle.plan_reader.specs.Drafts.{counts_of, spread_at};
+ghost use Rattle.plan_reader.specs.Drafts.{counts_of};
 
 use crate::parts::{Sources, held_cells, parts_of};
 use crate::sections::{dofs_of, sections_of};
@@ -22,15 +22,14 @@ use vertex_owners::vertex_owners;
 /// vertices. After the first half of `DMPlexDistribute` of PETSc. Owners are found by fetch-and-Min over
 /// the fabric.
 ///
-/// The plan begins with a part, and fits the mesh. No round is kept. Fails only for want of memory.
+/// The plan fits the mesh. No round is kept. Fails only for want of memory.
 pub fn seed<F: Fabric>(
     alloc: Global,
     mesh: &Mesh,
     plan: &Plan,
     fabric: &mut F,
 ) -> Result<Scatter, NoMemory>
-    requires part { IsSome (spread_at plan.now.plan.moves 0) }
-    requires fits { misfit plan.now.plan (length mesh.now.cells) ≡ None }
+    requires { misfit plan.now.plan (length mesh.now.cells) ≡ None }
     ensures scatter { IfOk result (λ s. IsScatter s mesh.now (counts_of plan.now.plan.dofs) (first_ranks mesh.now plan.now.plan) plan.now.plan.ranks) }
     ensures kept { F.kept fabric.new ≡ F.kept fabric.old }
 {

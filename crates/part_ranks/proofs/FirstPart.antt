@@ -1,6 +1,6 @@
 -- What the first part of a plan that fits assigns.
-use Rattle.std.proofs.Common.{◌≡◌, ℕ, zero, suc, ◌+◌, ◌*◌, ◌<◌, ◌≤◌, Bool, true, false, List, [], ◌∷◌, ◌++◌, length, map, get_or, Option, Some, None, refl, sym, ap, ap₂, ◌∙◌, subst, arith, eqb-true, add-one}
-use Rattle.std.specs.Prelude.{Contains, option_map, IsSome, slice_get}
+use Rattle.std.proofs.Common.{◌≡◌, ℕ, ◌+◌, ◌*◌, ◌<◌, ◌≤◌, Bool, false, List, [], ◌∷◌, ◌++◌, length, map, get_or, Option, Some, None, refl, sym, ap, ◌∙◌, subst, arith, eqb-true, add-one}
+use Rattle.std.specs.Prelude.{option_map, IsSome}
 use Rattle.std.specs.List.{AllByRecursion}
 use Rattle.std.proofs.lemmas.Bool.{leb-false, not-false}
 use Rattle.std.proofs.lemmas.List.{map-append}
@@ -15,7 +15,7 @@ use Rattle.input_defs.specs.declared.PlanFault.{PlanFault}
 use Rattle.input_defs.specs.Plans.{Plan, Spread, Block, Stripe, Listed, Move, Part, Layers, rank_by, ranks_above, misfits, misfit}
 use Rattle.input_defs.specs.States.{assignment, states, states_after, first_ranks, before_any_step}
 use Rattle.input_laws.proofs.Causes.{first_cause-none}
-use Rattle.plan_reader.specs.Drafts.{spread_of, spread_at}
+use Rattle.plan_reader.specs.Drafts.{spread_at}
 
 -- no rank of a list is past the last one
 each_below : (ranks line : ℕ) (each : List ℕ) → AllByRecursion (λ (c : Bool × PlanFault). c.0 ≡ false) (ranks_above ranks line each) → AllByRecursion (λ rank. rank < ranks) each

@@ -114,7 +114,7 @@ fits-listed plan cells i s fits e = fits_at plan.ranks cells plan.moves i s fits
 
 -- ---- the part at a place
 
-some_none : IsSome {T = Spread} None → ⊥
+pub some_none : IsSome {T = Spread} None → ⊥
 some_none h = cc
 
 at_move : (moves : List MoveLine) (i : ℕ) (m : MoveLine) → m ≡ get_or moves i m → IsSome (spread_at (move_views moves) i) → spread_at (move_views moves) i ≡ spread_of (move_line_view m)

@@ -1,19 +1,21 @@
 -- What a line makes of what was read before.
-use Rattle.std.proofs.Common.{◌≡◌, ◌≢◌, get_or, ℕ, ◌<◌, ◌≤◌, map, subst, length-append, Bool, true, false, not, ◌||◌, List, [], ◌∷◌, ◌++◌, length, Option, Some, None, Ok, Err, refl, sym, ◌∙◌, arith}
+use Rattle.std.proofs.Common.{◌≡◌, ◌≢◌, get_or, ℕ, ◌+◌, ◌<◌, ◌≤◌, subst, length-append, Bool, true, false, not, ◌||◌, List, [], ◌∷◌, ◌++◌, length, Option, Some, None, Ok, Err, refl, sym, ◌∙◌, arith}
 use Rattle.std.specs.Prelude.{Result, MatchResult, IsErrAnd, nat_le, nat_lt, ◌==◌}
 use Rattle.std.specs.List.{list_all, list_any, AllByRecursion}
-use Rattle.std.proofs.lemmas.Bool.{le-leb, lt-ltb, ne_eqb, or_parts, leb-false, ltb-false}
+use Rattle.std.specs.Option.{IsSome}
+use Rattle.std.proofs.lemmas.Bool.{le-leb, lt-leb, lt-ltb, eq-eqb, ne_eqb, or_parts, leb-false, ltb-false}
 use Rattle.std.proofs.lemmas.List.{length-map}
 use Rattle.plain_lists.specs.Lists.{same_list}
 use Rattle.plain_lists.proofs.Each.{all_append}
 use Rattle.plain_lists.proofs.Finding.{any_map}
 use Rattle.plex_defs.specs.Fields.{AreRightDofs}
-use Rattle.input_defs.specs.declared.PlanFault.TheVariants.{Dofs, Word}
+use Rattle.input_defs.specs.declared.PlanFault.TheVariants.{Dofs, Overlap, Steps, Word}
 use Rattle.input_defs.specs.Plans as plans
-use Rattle.input_defs.specs.Plans.{Before, IsDofs, Move, is_part, form_of, with_form, with_line, plan_with, is_field_name, is_letter}
+use Rattle.input_defs.specs.Plans.{Before, IsDofs, IsMove, Move, Part, Layers, is_part, layers_of, layers_with, form_of, with_form, with_line, plan_with, is_field_name, is_letter}
 use Rattle.input_defs.specs.declared.Show.{Show}
 use Rattle.plan_reader.specs.declared.moves.MoveLine.{MoveLine}
-use Rattle.plan_reader.specs.Drafts.{Drafted, drafted, counts_of}
+use Rattle.plan_reader.specs.Drafts.{Drafted, drafted, counts_of, spread_at}
+use Rattle.plan_reader.proofs.FitLemmas.{some_none}
 use Rattle.plan_reader.specs.declared.moves.DofsLine.{DofsLine}
 use Rattle.plan_reader.specs.Reading.{dofs_view, dofs_views, move_views}
 
@@ -47,10 +49,35 @@ dofs-right b line name dofs sections e right =
     let test : is_wrong_beside b.dofs name dofs ≡ false = rw e (wrong_view sections name dofs ∙ right) in
     rw test refl
 
--- where there are moves, one of them is a part
-pub part_there : (moves : List (ℕ × Move)) (n : ℕ) → list_any (λ (m : ℕ × Move). is_part m.1) moves ≡ nat_lt 0 (length moves) → n ≡ length moves → (n == 0) ≡ false → list_any (λ (m : ℕ × Move). is_part m.1) moves ≡ true
-part_there [] n parts e some = absurd (grind arith)
-part_there (m ∷ moves) n parts e some = parts ∙ lt-ltb 0 (length (m ∷ moves)) (omega arith)
+-- ---- layers
+
+some_part : (moves : List (ℕ × Move)) → (0 < length moves → IsSome (spread_at moves 0)) → 0 < length moves → list_any (λ (m : ℕ × Move). is_part m.1) moves ≡ true
+some_part [] begins some = absurd (omega (arith, some))
+some_part ((line, Part spread) ∷ moves) begins some = refl
+some_part ((line, Layers k) ∷ moves) begins some = absurd (some_none (begins some))
+
+-- where the first of so many moves is a part, and there are some, one of them is
+pub part_there : (moves : List MoveLine) (n : ℕ) → (0 < length (move_views moves) → IsSome (spread_at (move_views moves) 0)) → n ≡ length moves → (n == 0) ≡ false → list_any (λ (m : ℕ × Move). is_part m.1) (move_views moves) ≡ true
+part_there [] n begins e some = absurd (grind arith)
+part_there (m ∷ moves) n begins e some = some_part (move_views (m ∷ moves)) begins (omega arith)
+
+-- `overlap 0` drops the layers
+pub layers-dropped : (layers k : ℕ) → k ≡ 0 → layers_with layers (Layers k) ≡ 0
+layers-dropped layers k none = rw (eq-eqb k 0 none) refl
+
+pub layers-added : (layers k : ℕ) → k ≢ 0 → layers_with layers (Layers k) ≡ layers + k
+layers-added layers k some = rw (ne_eqb k 0 some) refl
+
+module _ (b : Before) (line k : ℕ) (moves : List (ℕ × Move)) (are : b.moves ≡ moves) (part : list_any (λ (m : ℕ × Move). is_part m.1) moves ≡ true) where
+  -- after as many steps as there can be
+  pub layers-late : 32 ≤ length moves → with_form b line (Some (IsMove (Layers k))) ≡ Err (Steps line)
+  unfolding with_form
+  layers-late many = rw (are, part, le-leb 32 (length moves) many) refl
+
+  -- beyond the most layers
+  pub layers-high : (total : ℕ) → length moves < 32 → total ≡ layers_with (layers_of moves) (Layers k) → 4 < total → with_form b line (Some (IsMove (Layers k))) ≡ Err (Overlap line total)
+  unfolding with_form
+  layers-high total few is high = rw (are, part, lt-leb 32 (length moves) few, ← is, lt-ltb 4 total high) refl
 
 -- at the end, with ranks and a part
 pub plan_with-is : (d : Drafted) (ranks : Option ℕ) (moves : List MoveLine) (dofs : List DofsLine) (shows : Show) (ahead : Option ℕ) (line n : ℕ) → drafted ranks moves dofs shows ahead ≡ d → ranks ≡ Some n

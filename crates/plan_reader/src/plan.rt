@@ -1,6 +1,6 @@
 //! A plan that was read.
 
-ghost use Rattle.std.specs.Prelude.{◌≡◌, ◌<◌, ◌≤◌, length, None, Some, option_map, IfOk, IsSome};
+ghost use Rattle.std.specs.Prelude.{◌≡◌, ◌<◌, ◌≤◌, length, None, Some, option_map, IfOk, OnOk, IsSome};
 ghost use Rattle.std.specs.List.{slice_get};
 ghost use Rattle.input_defs.specs.Causes.{unless};
 ghost use Rattle.input_defs.specs.Plans.{misfit, plain_plan, rank_by, step_of};
@@ -27,16 +27,16 @@ pub struct Plan {
 }
 
 impl Model for Plan {
-    ghost use Rattle.std.specs.Prelude.{◌≤◌};
+    ghost use Rattle.std.specs.Prelude.{◌≤◌, IsSome};
     ghost use Rattle.plex_defs.specs.Fields.{AreRightDofs};
-    ghost use Rattle.plan_reader.specs.Drafts.{PlanText, counts_of, plan_text};
-    ghost use Rattle.plan_reader.specs.Reading.{dofs_views};
+    ghost use Rattle.plan_reader.specs.Drafts.{PlanText, counts_of, plan_text, spread_at};
+    ghost use Rattle.plan_reader.specs.Reading.{dofs_views, move_views};
 
     ghost Value = { PlanText };
 
     ghost view = { λ p. plan_text p.ranks p.moves.items p.dofs.items p.shows p.ahead };
 
-    ghost invariant = { λ p. (1 ≤ p.ranks) × (p.ranks ≤ 64) × AreRightDofs (counts_of (dofs_views p.dofs.items)) };
+    ghost invariant = { λ p. (1 ≤ p.ranks) × (p.ranks ≤ 64) × AreRightDofs (counts_of (dofs_views p.dofs.items)) × IsSome (spread_at (move_views p.moves.items) 0) };
 }
 
 impl Plan {
@@ -65,6 +65,9 @@ impl Plan {
         ensures ranks { result ≡ self.now.plan.ranks }
         ensures some { 1 ≤ result }
         ensures few { result ≤ 64 }
+
+        // Every plan begins with a part.
+        ensures part { IsSome (spread_at self.now.plan.moves 0) }
     {
         self.ranks
     }
@@ -142,7 +145,8 @@ impl Plan {
     /// of overlap are added and cells times ranks exceed 4,000,000.
     #[tactic(auto, unfolding(input_defs::specs::Plans::misfit))]
     pub fn fits(&self, cells: u32) -> Result<(), PlanFault>
-        ensures { result ≡ unless (misfit self.now.plan cells) tt }
+        ensures exact { result ≡ unless (misfit self.now.plan cells) tt }
+        ensures fits { OnOk result (misfit self.now.plan cells ≡ None) }
     {
         first_misfit(self.ranks, cells, &self.moves)
     }

@@ -1,12 +1,9 @@
 //! Meshes over ranks, step by step.
-ghost use Rattle.std.specs.Prelude.{◌≡◌, true, None, IsSome, IfOk};
-ghost use Rattle.input_defs.specs.Plans.{misfit};
-ghost use Rattle.plan_reader.specs.Drafts.{spread_at};
+ghost use Rattle.std.specs.Prelude.{IfOk};
 ghost use Rattle.spread_tests.specs.Some.{IsSomeScatter};
 
 use crate::meshes::THREE_TRIANGLES;
 use dist_seed::{Scatter, seed};
-use input_defs::Step;
 use interp_share::{Shared, share};
 use mesh_check::{Mesh, accept};
 use msh_reader::read_msh;
@@ -35,29 +32,6 @@ fn plan_of(alloc: Global, text: &str) -> Result<Plan, Fail> {
     read_plan(alloc, text.as_bytes()).map_err(|_| Fail::from("the plan is refused"))
 }
 
-/// Whether a plan fits a mesh of so many cells.
-fn fits(plan: &Plan, cells: u32) -> bool
-    ensures { result ≡ true → misfit plan.now.plan cells ≡ None }
-{
-    match plan.fits(cells) {
-        Ok(()) => true,
-        Err(_) => false,
-    }
-}
-
-/// Whether the first step of a plan is a part.
-fn begins_with_part(plan: &Plan) -> bool
-    ensures { result ≡ true → IsSome (spread_at plan.now.plan.moves 0) }
-{
-    if plan.steps() == 0 {
-        return false;
-    }
-    match plan.step(0) {
-        Step::Part => true,
-        Step::Overlap(_) => false,
-    }
-}
-
 /// What ranks are given of a mesh by a plan, where there is memory.
 fn scatter_over<F: Fabric>(
     alloc: Global,
@@ -69,12 +43,8 @@ fn scatter_over<F: Fabric>(
 {
     let mesh = mesh_of(alloc, file)?;
     let plan = plan_of(alloc, plan)?;
-    if !fits(&plan, mesh.cells()) {
-        return Err(Fail::from("the plan does not fit"));
-    }
-    if !begins_with_part(&plan) {
-        return Err(Fail::from("the plan begins with no part"));
-    }
+    plan.fits(mesh.cells())
+        .map_err(|_| Fail::from("the plan does not fit"))?;
     Ok(seed(alloc, &mesh, &plan, fabric))
 }
 

@@ -1,7 +1,7 @@
-use Rattle.std.proofs.Common.{◌≡◌, ◌≤◌, ◌∷◌, ◌++◌, [], ℕ, map, length, Some, ap, sym, subst, ◌∙◌, arith}
+use Rattle.std.proofs.Common.{◌≡◌, ◌≤◌, ◌∷◌, ◌++◌, [], map, length, Some, ap, sym, subst, ◌∙◌, arith}
 use Rattle.std.specs.Prelude.{option_map}
 use Rattle.plain_lists.specs.Lists.{below}
-use Rattle.input_defs.specs.Plans.{Spread, rank_by}
+use Rattle.input_defs.specs.Plans.{rank_by}
 use Rattle.input_defs.specs.States.{assignment}
 use Rattle.rank_defs.specs.Ranks.{IsRightAssignment}
 use Rattle.plan_reader.specs.Drafts.{spread_at}
@@ -22,7 +22,7 @@ pub returns : goal.returns
 returns c =
     let m = c.args.mesh.now in
     let plan = c.args.plan.now.plan in
-    let spread = spread-is (spread_at plan.moves 0) c.requires.part in
+    let spread = spread-is (spread_at plan.moves 0) c.ranks-ranks.ensures.part in
     let first = begins plan.moves spread.0 spread.1 in
     let all : c.loop-c.c ≡ length m.cells = omega (arith, c.loop-c-test.false, c.loop-c.auto.c-end, c.cells-c-end.ensures) in
     let ranks : c.loop-c.ranks.items ≡ assignment plan.ranks (length m.cells) spread.0 = c.loop-c.invariant spread.0 spread.1 ∙ ap (λ n. map (λ k. rank_by plan.ranks spread.0 k (length m.cells)) (below n)) all in
@@ -30,5 +30,5 @@ returns c =
     let few : plan.ranks ≤ 64 = omega (arith, c.ranks-ranks.ensures.ranks, c.ranks-ranks.ensures.few) in
     record {
       ranks = ranks ∙ sym (first-are m plan spread.0 first);
-      right = subst (IsRightAssignment m plan.ranks) (sym ranks) (first-right m plan spread.0 first some few c.requires.fits);
+      right = subst (IsRightAssignment m plan.ranks) (sym ranks) (first-right m plan spread.0 first some few c.requires);
     }
