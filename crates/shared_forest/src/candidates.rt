@@ -1,10 +1,11 @@
 //! Which faces and edges may be shared.
-ghost use Rattle.std.specs.Prelude.{◌≡◌, ◌<◌, true, length, IfOk};
-ghost use Rattle.meeting_laws.specs.Sets.{AreRankCharts, IsSetOf, chart_at, has_vertex};
-ghost use Rattle.meeting_laws.specs.Steps.{candidates, is_copied, may_share, vertex_forest};
+ghost use Rattle.std.specs.Prelude.{◌≡◌, ◌<◌, length, IfOk};
+ghost use Rattle.meeting_laws.specs.Sets.{AreRankCharts};
+ghost use Rattle.meeting_laws.specs.Steps.{candidates, vertex_forest};
+ghost use Rattle.shared_forest.specs.Flags.{AreFlagged, all_up};
 
 use crate::charts::{NO_VERTEX, RankCharts};
-use crate::vertices::place_of;
+use crate::copied::copied_flags;
 use plex_base::NoMemory;
 use sf_graph::Forest;
 use std::alloc::Global;
@@ -23,39 +24,25 @@ pub(crate) fn candidates<C: RankCharts>(
     ensures { IfOk result (λ places. places.items ≡ candidates (C.charts charts.now) rank) }
 {
     let sets = charts.sets(rank);
+    let flags = copied_flags(alloc, charts, copies, rank)?;
     let mut places = Vec::new(alloc);
     for k in 0..sets.len() {
-        if may_share(charts, copies, rank, &sets[k]) {
+        if all_up(&flags, &sets[k]) {
             places.push(k as u32)?;
         }
     }
     Ok(places)
 }
 
-/// Whether each vertex of a set has a copy.
-fn may_share<C: RankCharts>(charts: &C, copies: &Forest, rank: u32, set: &[u32; 4]) -> bool
-    requires right { AreRankCharts (C.charts charts.now) }
-    requires rank { rank < length (C.charts charts.now) }
-    requires copies { copies.now ≡ vertex_forest (C.charts charts.now) }
-    requires set { IsSetOf (chart_at (C.charts charts.now) rank) set.now }
-    ensures { result ≡ may_share (C.charts charts.now) rank set.now }
+/// Whether each vertex of a set has its flag up.
+fn all_up(flags: &[bool], set: &[u32; 4]) -> bool
+    requires { AreFlagged flags.now set.now }
+    ensures { result ≡ all_up flags.now set.now }
 {
     for vertex in set {
-        if *vertex != NO_VERTEX && !is_copied(charts, copies, rank, *vertex) {
+        if *vertex != NO_VERTEX && !flags[*vertex as usize] {
             return false;
         }
     }
     true
-}
-
-/// Whether another rank has the vertex too.
-fn is_copied<C: RankCharts>(charts: &C, copies: &Forest, rank: u32, vertex: u32) -> bool
-    requires right { AreRankCharts (C.charts charts.now) }
-    requires rank { rank < length (C.charts charts.now) }
-    requires copies { copies.now ≡ vertex_forest (C.charts charts.now) }
-    requires there { has_vertex vertex (chart_at (C.charts charts.now) rank) ≡ true }
-    ensures { result ≡ is_copied (C.charts charts.now) rank vertex }
-{
-    let place = place_of(charts.vertices(rank), vertex);
-    charts.owner(rank, place as usize) != rank || copies.degree(rank, place) > 0
 }

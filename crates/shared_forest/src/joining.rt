@@ -67,11 +67,11 @@ fn push_met<C: RankCharts>(
 {
     let first = charts.cells(rank) + charts.vertices(rank).len() as u32;
     for j in 0..places.len() {
-        let owner = (met[j] / 4294967296) as u32;
-        if owner != rank {
+        let first_rank = (met[j] / 4294967296) as u32;
+        if first_rank != rank {
             leaves.push(Leaf {
                 local: first + places[j],
-                rank: owner,
+                rank: first_rank,
                 index: (met[j] % 4294967296) as u32,
             })?;
         }

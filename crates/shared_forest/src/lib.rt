@@ -8,6 +8,7 @@
 
 mod candidates;
 mod charts;
+mod copied;
 mod forest;
 mod joining;
 mod meeting;

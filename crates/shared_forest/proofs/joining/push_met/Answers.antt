@@ -7,11 +7,11 @@ use Rattle.meeting_laws.specs.Steps.{behind, candidates}
 use Rattle.meeting_laws.proofs.Meeting.{candidate-is}
 use Rattle.meeting_laws.proofs.Bounds.{count-fits}
 use Rattle.meeting_laws.proofs.Loops.{behind_more, behind_less}
-use Rattle.shared_forest.proofs.joining.push_met.Goals.{then-owner-rank+in_ok-push, else-owner-rank}
+use Rattle.shared_forest.proofs.joining.push_met.Goals.{then-first_rank-rank+in_ok-push, else-first_rank-rank}
 use Rattle.shared_forest.proofs.joining.push_met.Goals as goal
 
-pub overflow_add-first-then-owner-rank : goal.overflow_add-first-then-owner-rank
-overflow_add-first-then-owner-rank g c = let charts : List RankChart = g.C.RankCharts.charts c.args.charts.now in
+pub overflow_add-first-then-first_rank-rank : goal.overflow_add-first-then-first_rank-rank
+overflow_add-first-then-first_rank-rank g c = let charts : List RankChart = g.C.RankCharts.charts c.args.charts.now in
     let low : get_or c.args.places.now c.loop-j.j 0 < length (chart_at charts c.args.rank).sets = subst (λ ps. get_or ps c.loop-j.j 0 < length (chart_at charts c.args.rank).sets) (sym c.requires.places) (candidate-is charts c.args.rank c.loop-j.j (omega (arith, ap length c.requires.places, c.loop-j-test.true))).0 in
     omega (arith, low, count-fits charts c.requires.right c.args.rank c.requires.rank, c.cells.ensures, ap length c.vertices.ensures)
 
@@ -19,9 +19,9 @@ pub loop-j-preserved : goal.loop-j-preserved
 loop-j-preserved g c = let charts : List RankChart = g.C.RankCharts.charts c.args.charts.now in
     let test : ℕ → Bool = λ j. not (get_or c.args.met.now j 0 / 2 ^ 32 == c.args.rank) in
     let to : ℕ → Leaf = λ j. leaf (behind (chart_at charts c.args.rank) (get_or (candidates charts c.args.rank) j 0)) (get_or c.args.met.now j 0 / 2 ^ 32, get_or c.args.met.now j 0 % 2 ^ 32) in
-    elim c.if-owner-rank.branch [
-      | then-owner-rank+in_ok-push w ↦
+    elim c.if-first_rank-rank.branch [
+      | then-first_rank-rank+in_ok-push w ↦
           let here : leaf (c.cells.result + length c.vertices.result.now + get_or c.args.places.now c.loop-j.j 0) (get_or c.args.met.now c.loop-j.j 0 / 2 ^ 32, get_or c.args.met.now c.loop-j.j 0 % 2 ^ 32) ≡ to c.loop-j.j = λ k. leaf (c.cells.ensures k + length (c.vertices.ensures k) + get_or (c.requires.places k) c.loop-j.j 0) (get_or c.args.met.now c.loop-j.j 0 / 2 ^ 32, get_or c.args.met.now c.loop-j.j 0 % 2 ^ 32) in
-          behind_more c.args.leaves.now.items test to c.loop-j.j c.loop-j.leaves.items c.if-owner-rank.leaves.items _ c.loop-j.invariant (ap not (ne_eqb (get_or c.args.met.now c.loop-j.j 0 / 2 ^ 32) c.args.rank w.if-owner-rank.true)) here (ap (λ (v : Vec Leaf Global). v.items) w.leaves-is ∙ w.in_ok-push.ensures.items)
-      | else-owner-rank w ↦ ap (λ (v : Vec Leaf Global). v.items) w.leaves-is ∙ behind_less c.args.leaves.now.items test to c.loop-j.j c.loop-j.leaves.items c.loop-j.invariant (ap not (eq-eqb (get_or c.args.met.now c.loop-j.j 0 / 2 ^ 32) c.args.rank w.if-owner-rank.false))
+          behind_more c.args.leaves.now.items test to c.loop-j.j c.loop-j.leaves.items c.if-first_rank-rank.leaves.items _ c.loop-j.invariant (ap not (ne_eqb (get_or c.args.met.now c.loop-j.j 0 / 2 ^ 32) c.args.rank w.if-first_rank-rank.true)) here (ap (λ (v : Vec Leaf Global). v.items) w.leaves-is ∙ w.in_ok-push.ensures.items)
+      | else-first_rank-rank w ↦ ap (λ (v : Vec Leaf Global). v.items) w.leaves-is ∙ behind_less c.args.leaves.now.items test to c.loop-j.j c.loop-j.leaves.items c.loop-j.invariant (ap not (eq-eqb (get_or c.args.met.now c.loop-j.j 0 / 2 ^ 32) c.args.rank w.if-first_rank-rank.false))
     ]
