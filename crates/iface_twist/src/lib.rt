@@ -1,0 +1,6 @@
+//! The twist that ranks agree on: the least of their own.
+#![tactic(auto)]
+
+mod twist;
+
+pub use twist::least_twist;
