@@ -1,4 +1,3 @@
-mod Building
 pub mod Valued
 pub mod Sourced
 pub mod Routed

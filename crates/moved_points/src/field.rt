@@ -5,9 +5,9 @@ ghost use Rattle.std.specs.List.{position_or_len};
 ghost use Rattle.plain_lists.specs.Lists.{below};
 ghost use Rattle.moved_laws.specs.Moves.{IsReordering, moved_list};
 
-use crate::builder::FieldBuilder;
 use plex_base::NoMemory;
 use plex_section::Field;
+use rank_fields::FieldBuilder;
 use std::alloc::Global;
 
 /// A field after its points moved: point `p` went to place `moves[p]` with its words.
@@ -29,7 +29,10 @@ pub fn moved_field(alloc: Global, field: &Field, moves: &[u32]) -> Result<Field,
 }
 
 /// From where the point at each place came.
-fn sources_of(alloc: Global, moves: &[u32]) -> Result<Vec<u32>, NoMemory>
+///
+/// There is a move for each of fewer than 2^32 points, each to a place of its own. Fails only for want of
+/// memory.
+pub fn sources_of(alloc: Global, moves: &[u32]) -> Result<Vec<u32>, NoMemory>
     requires order { IsReordering moves.now }
     requires few { length moves.now < 2 ^ 32 }
     ensures { IfOk result (λ sources. sources.items ≡ map (λ j. position_or_len (λ k. k == j) moves.now) (below (length moves.now))) }

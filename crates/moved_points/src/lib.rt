@@ -3,11 +3,10 @@
 //! `moves` tell for each place to which place goes the point that stands there.
 #![tactic(auto)]
 
-mod builder;
 mod field;
 mod forest;
 mod label;
 
-pub use field::moved_field;
+pub use field::{moved_field, sources_of};
 pub use forest::moved_forest;
 pub use label::moved_label;

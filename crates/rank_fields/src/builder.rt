@@ -16,7 +16,7 @@ const TOO_MANY_WORDS: usize = 4_294_967_296;
 /// A field whose points are pushed one after another, in the order of the chart. Contracts see it as
 /// the words of each point so far.
 #[derive(Drop)]
-pub(crate) struct FieldBuilder {
+pub struct FieldBuilder {
     dofs: Vec<u32>,
     words: Vec<u64>,
 }
@@ -33,7 +33,8 @@ impl Model for FieldBuilder {
 }
 
 impl FieldBuilder {
-    pub(crate) fn new(alloc: Global) -> FieldBuilder
+    /// A field without points.
+    pub fn new(alloc: Global) -> FieldBuilder
         ensures { result ≡ [] }
     {
         FieldBuilder {
@@ -42,8 +43,9 @@ impl FieldBuilder {
         }
     }
 
-    /// Pushes the next point with its words.
-    pub(crate) fn push(&mut self, words: &[u64]) -> Result<(), NoMemory>
+    /// Pushes the next point with its words. Fails only for want of memory: memory for 2^32 words of a field
+    /// can't be had.
+    pub fn push(&mut self, words: &[u64]) -> Result<(), NoMemory>
         ensures { OnOk result (self.new ≡ self.old ++ words.now ∷ []) }
     {
         if words.len() >= TOO_MANY_WORDS - self.words.len() {
@@ -84,8 +86,8 @@ impl FieldBuilder {
         Ok(())
     }
 
-    /// The field of all points.
-    pub(crate) fn finish(self, alloc: Global) -> Result<Field, NoMemory>
+    /// The field of all points. Fails only for want of memory.
+    pub fn finish(self, alloc: Global) -> Result<Field, NoMemory>
         ensures { IfOk result (λ field. field ≡ self) }
     {
         let FieldBuilder { dofs, words } = self;

@@ -7,6 +7,7 @@ mod data_fields;
 mod dof_fields;
 mod sizes;
 
+pub use builder::FieldBuilder;
 pub use data_fields::data_field;
 pub use dof_fields::dof_field;
 pub use sizes::ChartSizes;
