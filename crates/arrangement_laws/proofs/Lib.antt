@@ -1,0 +1,5 @@
+pub mod Orders
+pub mod Greatest
+pub mod Offers
+pub mod Told
+pub mod OrderRows
