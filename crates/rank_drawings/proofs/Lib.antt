@@ -1,0 +1,4 @@
+pub mod Filled
+pub mod Known
+pub mod AllRanks
+pub mod AtHand
