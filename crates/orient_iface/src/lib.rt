@@ -1,0 +1,10 @@
+//! The distributed mesh of what ranks share, with one orientation of each face and edge on all ranks.
+//!
+//! [`orient`] runs the home round, by which each point gets the key of the first cell that sees it, lets the
+//! ranks tell each other how that cell sees it, and assembles the [`Dist`](dist_state::Dist).
+#![tactic(auto)]
+
+mod agreeing;
+mod orienting;
+
+pub use orienting::{OrientFault, orient};
