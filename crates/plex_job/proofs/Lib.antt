@@ -1,6 +1,5 @@
 pub mod OneRank
 pub mod Once
-pub mod Giving
 pub mod Begun
 pub mod Endings
 pub mod Course

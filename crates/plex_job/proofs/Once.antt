@@ -73,9 +73,9 @@ module _ (bytes : List ℕ) (plan : Plan) (m : Mesh) (read : plan_of bytes ≡ O
 
   -- on one rank it spreads the mesh once
   pub once-on-one-rank : plan.ranks ≡ 1 → IsSpreadOnce m plan
-  once-on-one-rank one = once-alike (λ s there.
-      assigned-one m s.ranks (subst (λ n. IsRightAssignment m n s.ranks) one (steps-right bytes plan m read fits s there))
-      ∙ sym (assigned-one m (first_ranks m plan) (subst (λ n. IsRightAssignment m n (first_ranks m plan)) one (first_part-right bytes plan m read fits))))
+  once-on-one-rank one = once-alike (λ s there. assigned-one m s.ranks (first_ranks m plan)
+      (subst (λ n. IsRightAssignment m n s.ranks) one (steps-right bytes plan m read fits s there))
+      (subst (λ n. IsRightAssignment m n (first_ranks m plan)) one (first_part-right bytes plan m read fits)))
 
   -- so does a plan of one part, on any number of ranks
   pub once-by-one-part : length plan.moves ≡ 1 → IsSpreadOnce m plan

@@ -3,8 +3,8 @@ use Rattle.std.specs.Prelude.{◌≡◌, ◌⊎◌, List, [], ◌∷◌, ◌++�
 use Rattle.mesh_defs.specs.Diagram.{twist_key}
 use Rattle.sf_defs.specs.Rounds.{Round}
 use Rattle.input_defs.specs.Refused.{Task}
-use Rattle.plex_job.specs.declared.distributing.SpreadFault.{SpreadFault}
-use Rattle.plex_job.specs.declared.distributing.SpreadFault.TheVariants.{Twist, NoMemory}
+use Rattle.orient_iface.specs.declared.orienting.OrientFault.{OrientFault}
+use Rattle.orient_iface.specs.declared.orienting.OrientFault.TheVariants.{Twist, NoMemory}
 use Rattle.plex_job.specs.Once.{IsHome}
 
 -- One more round is kept, the home round of the task. The meaning of the fabric's type comes first.
@@ -13,6 +13,6 @@ pub record KeepsHome {F : Type 0} (kept : F → List Round) (t : Task) (fabric f
   pub kept_is : kept fabric_then ≡ kept fabric ++ home ∷ []
 
 -- a mesh with a twist is refused after its home round; memory may run out before it or after it
-abbrev pub IsSpreadFault : {F : Type 0} → (F → List Round) → Task → F → F → SpreadFault → Type 0
+abbrev pub IsSpreadFault : {F : Type 0} → (F → List Round) → Task → F → F → OrientFault → Type 0
 IsSpreadFault kept t fabric fabric_then (Twist key) = (twist_key t.mesh ≡ Some key.0) × ((home : Round) × KeepsHome kept t fabric fabric_then home)
 IsSpreadFault kept t fabric fabric_then NoMemory = (kept fabric_then ≡ kept fabric) ⊎ ((home : Round) × KeepsHome kept t fabric fabric_then home)

@@ -5,17 +5,20 @@ ghost use Rattle.job_task.specs.Reading.{task_view, IsBuilt};
 ghost use Rattle.plex_job.specs.Seen.{just, seen_alone};
 ghost use Rattle.plex_job.specs.Statuses.{UnlessWriteFault, UnlessAnswer};
 
-use crate::distributing::{SpreadFault, spread_mesh};
+use crate::distributing::spread_mesh;
 use crate::ending::ending;
 use input_defs::Status;
 use job_task::Task;
+use orient_iface::OrientFault;
 use report::{Refusal, write_refusal};
 use sf_fabric::Fabric;
 use shelf_io::Sink;
 use std::alloc::Global;
+use std::thread::Threads;
 
 /// Runs the rounds of a task and writes its text, or refuses its mesh for a twist.
-pub(crate) fn perform<W: Sink, F: Fabric>(
+pub(crate) fn perform<R: Threads + Sync, W: Sink, F: Fabric>(
+    rt: &R,
     alloc: Global,
     task: &Task,
     out: &mut W,
@@ -28,15 +31,15 @@ pub(crate) fn perform<W: Sink, F: Fabric>(
 {
     // Every mesh is a right one: the proof takes this from the call.
     let _dim = task.mesh.dim();
-    match spread_mesh(alloc, task, fabric) {
+    match spread_mesh(rt, alloc, task, fabric) {
         Ok((spreading, home)) => {
             let written = spreading.write(alloc, home, out, fabric);
             ending(written, Status::Done)
         }
-        Err(SpreadFault::Twist(key)) => {
+        Err(OrientFault::Twist(key)) => {
             let written = write_refusal(alloc, &Refusal::Twist(key), out);
             ending(written, Status::Mesh)
         }
-        Err(SpreadFault::NoMemory) => Status::NoMemory,
+        Err(OrientFault::NoMemory) => Status::NoMemory,
     }
 }

@@ -17,9 +17,11 @@ use report::{Refusal, write_refusal};
 use sf_fabric::Fabric;
 use shelf_io::{Shelf, Sink};
 use std::alloc::Global;
+use std::thread::Threads;
 
 /// Does what words ask for, whatever words the call is seen to have.
-fn run_words<S: Shelf, W: Sink, F: Fabric>(
+fn run_words<R: Threads + Sync, S: Shelf, W: Sink, F: Fabric>(
+    rt: &R,
     alloc: Global,
     words: &[String],
     shelf: &mut S,
@@ -34,7 +36,7 @@ fn run_words<S: Shelf, W: Sink, F: Fabric>(
     ensures fault_flush { UnlessAnswer result (W.flushed out.new ≡ W.flushed out.old) }
 {
     match read_task(alloc, words, shelf) {
-        Ok(task) => perform(alloc, &task, out, fabric),
+        Ok(task) => perform(rt, alloc, &task, out, fabric),
         Err(Stop::Refused(refusal)) => {
             let written = write_refusal(alloc, &refusal, out);
             ending(written, refusal.status())
@@ -46,13 +48,14 @@ fn run_words<S: Shelf, W: Sink, F: Fabric>(
 /// Reads the files that the words name, runs the rounds of the plan, and writes the mesh as it is
 /// spread over ranks, step by step.
 ///
-/// `words` are those after the program's name. Each line with its LF is one `write`, and a whole
+/// Ranks work side by side in threads of `rt`. `words` are those after the program's name. Each line with its LF is one `write`, and a whole
 /// answer is flushed. The rounds that the fabric keeps grow by the home round and the number round of
 /// each part; a step is written only after its part's round.
 ///
 /// The mesh is that of DMPlex after `DMPlexInterpolate` and `DMPlexDistribute`; its file is one in the
 /// MSH format 2.2 of the Gmsh manual, as text.
-pub fn job<S: Shelf, W: Sink, F: Fabric>(
+pub fn job<R: Threads + Sync, S: Shelf, W: Sink, F: Fabric>(
+    rt: &R,
     alloc: Global,
     words: &[String],
     shelf: &mut S,
@@ -73,7 +76,7 @@ pub fn job<S: Shelf, W: Sink, F: Fabric>(
     // After a fault of the sink or of memory nothing more is flushed.
     ensures fault_flush { UnlessAnswer result (W.flushed out.new ≡ W.flushed out.old) }
 {
-    run_words(alloc, words, shelf, out, fabric)
+    run_words(rt, alloc, words, shelf, out, fabric)
 }
 
 /// Does what [`job`] does with the words after the first one, with rounds whose interleaving the first
@@ -81,7 +84,8 @@ pub fn job<S: Shelf, W: Sink, F: Fabric>(
 /// nine digits, without a zero in front, with single commas between them.
 ///
 /// Words whose first one is missing or other are refused.
-pub fn replay<S: Shelf, W: Sink>(
+pub fn replay<R: Threads + Sync, S: Shelf, W: Sink>(
+    rt: &R,
     alloc: Global,
     words: &[String],
     shelf: &mut S,
@@ -103,7 +107,7 @@ pub fn replay<S: Shelf, W: Sink>(
     match first_picks(alloc, words) {
         Ok(Some(picks)) => {
             let mut fabric = PickedFabric::new(picks);
-            run_words(alloc, &words[1..], shelf, out, &mut fabric)
+            run_words(rt, alloc, &words[1..], shelf, out, &mut fabric)
         }
         Ok(None) => {
             let written = write_refusal(alloc, &Refusal::Words, out);

@@ -25,6 +25,7 @@ fn faults(rt: HostRuntime) -> Result<(), Fail> {
         let words = words(rt.alloc(), &["mesh"])?;
         assert_eq!(rt;
             job(
+                &rt,
                 rt.alloc(),
                 &words,
                 &mut shelf,

@@ -10,6 +10,10 @@ mod orientations;
 #[cfg(test)]
 mod plans;
 #[cfg(test)]
+mod ranks;
+#[cfg(test)]
+mod rank_texts;
+#[cfg(test)]
 mod refusals;
 #[cfg(test)]
 mod runs;

@@ -39,7 +39,19 @@ fn refused_plans(rt: HostRuntime) -> Result<(), Fail> {
         ),
         ("ranks 1\n", "refused: plan line 2 no part\n"),
         ("ranks 1\nparts block\n", "refused: plan line 2 word\n"),
-        ("ranks 2\npart 0 1\n", "refused: plan line 1 not yet\n"),
+        (
+            "ranks 2\npart 0\n",
+            "refused: plan line 2 part length 1 want 2\n",
+        ),
+        ("ranks 2\npart 0 2\n", "refused: plan line 2 part rank 2\n"),
+        (
+            "ranks 2\npart 0 1\npart 1 0\n",
+            "refused: plan line 3 not yet\n",
+        ),
+        (
+            "ranks 2\npart 0 1\noverlap 1\n",
+            "refused: plan line 3 not yet\n",
+        ),
     ];
     for (plan, text) in runs {
         let files = [("mesh", TWO_TRIANGLES.as_bytes()), ("p", plan.as_bytes())];
@@ -88,6 +100,7 @@ fn made_meshes_and_words(rt: HostRuntime) -> Result<(), Fail> {
         let words = words(rt.alloc(), line)?;
         assert_eq!(rt;
             job(
+                &rt,
                 rt.alloc(),
                 &words,
                 &mut shelf,

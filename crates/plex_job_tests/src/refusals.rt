@@ -51,7 +51,7 @@ fn meshes(rt: HostRuntime) -> Result<(), Fail> {
     ];
     for (changes, line) in runs {
         let bytes = with_lines(rt.alloc(), changes)?;
-        let (status, out) = run(rt.alloc(), &bytes)?;
+        let (status, out) = run(&rt, rt.alloc(), &bytes)?;
         assert_eq!(rt; status, Status::Mesh, "{line}");
         assert_eq!(rt; out.bytes(), line.as_bytes());
         assert_eq!(rt; out.flushed(), line.len());
@@ -75,6 +75,7 @@ fn words_and_files(rt: HostRuntime) -> Result<(), Fail> {
         let words = words(rt.alloc(), line)?;
         assert_eq!(rt;
             job(
+                &rt,
                 rt.alloc(),
                 &words,
                 &mut shelf,

@@ -24,7 +24,7 @@ pub(crate) fn shelf(alloc: Global, bytes: &[u8], fail: &[u32]) -> Result<MemoryS
 }
 
 /// A shelf with these bytes under these names.
-fn shelf_of(
+pub(crate) fn shelf_of(
     alloc: Global,
     files: &[(&str, &[u8])],
     fail: &[u32],
@@ -49,7 +49,8 @@ pub(crate) fn script(alloc: Global) -> ScriptFabric {
 }
 
 /// The status and the sink after a run with these words on these files.
-fn run_by<F: Fabric>(
+pub(crate) fn run_by<R: Threads + Sync, F: Fabric>(
+    rt: &R,
     alloc: Global,
     line: &[&str],
     files: &[(&str, &[u8])],
@@ -58,25 +59,29 @@ fn run_by<F: Fabric>(
     let mut shelf = shelf_of(alloc, files, &[])?;
     let mut out = sink(alloc, &[])?;
     let words = words(alloc, line)?;
-    let status = job(alloc, &words, &mut shelf, &mut out, fabric);
+    let status = job(rt, alloc, &words, &mut shelf, &mut out, fabric);
     Ok((status, out))
 }
 
 /// The status and the sink after a run on a mesh file.
-pub(crate) fn run(alloc: Global, bytes: &[u8]) -> Result<(Status, MemorySink), AllocError> {
-    run_by(alloc, &["mesh"], &[("mesh", bytes)], &mut script(alloc))
+pub(crate) fn run<R: Threads + Sync>(
+    rt: &R,
+    alloc: Global,
+    bytes: &[u8],
+) -> Result<(Status, MemorySink), AllocError> {
+    run_by(rt, alloc, &["mesh"], &[("mesh", bytes)], &mut script(alloc))
 }
 
 /// The statuses and the sinks after two runs with these words on these files: by a script and by threads.
-pub(crate) fn run_both<R: Threads>(
+pub(crate) fn run_both<R: Threads + Sync>(
     rt: &R,
     alloc: Global,
     line: &[&str],
     files: &[(&str, &[u8])],
 ) -> Result<[(Status, MemorySink); 2], AllocError> {
-    let by_script = run_by(alloc, line, files, &mut script(alloc))?;
+    let by_script = run_by(rt, alloc, line, files, &mut script(alloc))?;
     let mut threads = ThreadFabric::new(rt, alloc, NoGate);
-    let by_threads = run_by(alloc, line, files, &mut threads)?;
+    let by_threads = run_by(rt, alloc, line, files, &mut threads)?;
     Ok([by_script, by_threads])
 }
 

@@ -9,6 +9,7 @@ use shelf_io::{FolderShelf, OutSink};
 use std::io::ErrorKind;
 use std::process::ExitCode;
 use std::rt::{Env, Files};
+use std::thread::Threads;
 use std::{env, io};
 
 /// The words after the program's name.
@@ -18,13 +19,13 @@ fn words<R: Env + AllocGlobal>(rt: &R) -> io::Result<Vec<String>> {
 }
 
 /// Does what the words ask for. Words that can't be read count as refused ones.
-fn run<R: Env + Files + Print + AllocGlobal>(rt: &R) -> Status {
+fn run<R: Env + Files + Print + AllocGlobal + Threads + Sync>(rt: &R) -> Status {
     let mut shelf = FolderShelf::new(rt);
     let mut out = OutSink::new(rt);
     match words(rt) {
-        Ok(words) => replay(rt.alloc(), &words, &mut shelf, &mut out),
+        Ok(words) => replay(rt, rt.alloc(), &words, &mut shelf, &mut out),
         Err(e) if e.kind() == ErrorKind::OutOfMemory => Status::NoMemory,
-        Err(_) => replay(rt.alloc(), &[], &mut shelf, &mut out),
+        Err(_) => replay(rt, rt.alloc(), &[], &mut shelf, &mut out),
     }
 }
 

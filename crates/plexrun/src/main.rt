@@ -20,14 +20,14 @@ fn words<R: Env + AllocGlobal>(rt: &R) -> io::Result<Vec<String>> {
 }
 
 /// Does what the words ask for. Words that can't be read count as refused ones.
-fn run<R: Env + Files + Print + AllocGlobal + Threads>(rt: &R) -> Status {
+fn run<R: Env + Files + Print + AllocGlobal + Threads + Sync>(rt: &R) -> Status {
     let mut shelf = FolderShelf::new(rt);
     let mut out = OutSink::new(rt);
     let mut fabric = ThreadFabric::new(rt, rt.alloc(), NoGate);
     match words(rt) {
-        Ok(words) => job(rt.alloc(), &words, &mut shelf, &mut out, &mut fabric),
+        Ok(words) => job(rt, rt.alloc(), &words, &mut shelf, &mut out, &mut fabric),
         Err(e) if e.kind() == ErrorKind::OutOfMemory => Status::NoMemory,
-        Err(_) => job(rt.alloc(), &[], &mut shelf, &mut out, &mut fabric),
+        Err(_) => job(rt, rt.alloc(), &[], &mut shelf, &mut out, &mut fabric),
     }
 }
 
