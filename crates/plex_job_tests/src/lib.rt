@@ -10,9 +10,9 @@ mod orientations;
 #[cfg(test)]
 mod plans;
 #[cfg(test)]
-mod ranks;
-#[cfg(test)]
 mod rank_texts;
+#[cfg(test)]
+mod ranks;
 #[cfg(test)]
 mod refusals;
 #[cfg(test)]

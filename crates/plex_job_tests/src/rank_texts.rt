@@ -42,7 +42,8 @@ end
 ";
 
 /// The owner's own cell gives the shared edge 74, and its key comes from the other rank.
-pub(crate) const KEY_FROM_THE_OTHER_RANK: &str = "mesh dim 2 cells 2 vertices 4 unused 0 loose 0 merged 0
+pub(crate) const KEY_FROM_THE_OTHER_RANK: &str =
+    "mesh dim 2 cells 2 vertices 4 unused 0 loose 0 merged 0
 ranks 2
 step 0 part
 rank 0 cells 1 held 7 owned 7 base 0
@@ -91,7 +92,8 @@ end
 ";
 
 /// The third rank draws first, the second last.
-pub(crate) const POINTS_OF_THREE_BY_2_0_1: &str = "mesh dim 2 cells 2 vertices 4 unused 0 loose 0 merged 0
+pub(crate) const POINTS_OF_THREE_BY_2_0_1: &str =
+    "mesh dim 2 cells 2 vertices 4 unused 0 loose 0 merged 0
 ranks 3
 step 0 part
 rank 0 cells 1 held 7 owned 7 base 4
@@ -116,7 +118,8 @@ end
 ";
 
 /// The second rank draws first, the first last.
-pub(crate) const POINTS_OF_THREE_BY_1_2_0: &str = "mesh dim 2 cells 2 vertices 4 unused 0 loose 0 merged 0
+pub(crate) const POINTS_OF_THREE_BY_1_2_0: &str =
+    "mesh dim 2 cells 2 vertices 4 unused 0 loose 0 merged 0
 ranks 3
 step 0 part
 rank 0 cells 1 held 7 owned 7 base 4
@@ -141,7 +144,8 @@ end
 ";
 
 /// Four triangles round a vertex, each on a rank of its own.
-pub(crate) const FOUR_TRIANGLES_ON_FOUR: &str = "mesh dim 2 cells 4 vertices 5 unused 0 loose 0 merged 0
+pub(crate) const FOUR_TRIANGLES_ON_FOUR: &str =
+    "mesh dim 2 cells 4 vertices 5 unused 0 loose 0 merged 0
 ranks 4
 step 0 part
 rank 0 cells 1 held 7 owned 7 base 0

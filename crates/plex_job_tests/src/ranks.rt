@@ -108,7 +108,10 @@ fn crossed(alloc: Global) -> Result<Vec<u8>, AllocError> {
 #[test]
 fn crossed_face_between_two_ranks(rt: HostRuntime) -> Result<(), Fail> {
     let mesh = crossed(rt.alloc())?;
-    let files = [("mesh", mesh.as_slice()), ("p", b"ranks 2\npart 0 1\n".as_slice())];
+    let files = [
+        ("mesh", mesh.as_slice()),
+        ("p", b"ranks 2\npart 0 1\n".as_slice()),
+    ];
     let mut fabric = script(rt.alloc());
     let line = ["--plan", "p", "mesh"];
     let (status, out) = run_by(&rt, rt.alloc(), &line, &files, &mut fabric)?;
@@ -120,8 +123,15 @@ fn crossed_face_between_two_ranks(rt: HostRuntime) -> Result<(), Fail> {
     assert_eq!(rt; home.before(), [2, 15, 13].as_slice());
     assert_eq!(rt; home.after(), [2, 15, 13].as_slice());
     assert_eq!(rt; home.asks(0).len(), 0);
-    let least = |word, value| Ask { word, op: Op::Min, value };
-    assert_eq!(rt; home.asks(1), [least(0, 65), least(1, 75), least(2, 73)].as_slice());
+    let least = |word, value| Ask {
+        word,
+        op: Op::Min,
+        value,
+    };
+    assert_eq!(rt;
+        home.asks(1),
+        [least(0, 65), least(1, 75), least(2, 73)].as_slice()
+    );
     Ok(())
 }
 
@@ -142,7 +152,10 @@ fn failing_sink(rt: HostRuntime) -> Result<(), Fail> {
         &mut script(rt.alloc()),
     );
     assert_eq!(rt; status, Status::WriteFault);
-    assert_eq!(rt; out.bytes(), b"mesh dim 2 cells 2 vertices 4 unused 0 loose 0 merged 0\nranks 2\nstep ".as_slice());
+    assert_eq!(rt;
+        out.bytes(),
+        b"mesh dim 2 cells 2 vertices 4 unused 0 loose 0 merged 0\nranks 2\nstep ".as_slice()
+    );
     Ok(())
 }
 
@@ -173,7 +186,10 @@ fn ranks_without_cells(rt: HostRuntime) -> Result<(), Fail> {
         mesh.extend_from_slice(line.as_bytes())?;
         mesh.push(b'\n')?;
     }
-    let files = [("mesh", mesh.as_slice()), ("p", b"ranks 64\npart 63\n".as_slice())];
+    let files = [
+        ("mesh", mesh.as_slice()),
+        ("p", b"ranks 64\npart 63\n".as_slice()),
+    ];
     let mut fabric = script(rt.alloc());
     let line = ["--plan", "p", "mesh"];
     let (status, out) = run_by(&rt, rt.alloc(), &line, &files, &mut fabric)?;

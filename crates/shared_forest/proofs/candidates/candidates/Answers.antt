@@ -30,10 +30,10 @@ loop-k-preserved g c =
     let is : IsSetOf chart (set_at chart c.loop-k.k) = all_at (IsSetOf chart) chart.sets c.loop-k.k [] (chart-right charts c.requires.right c.args.rank c.requires.rank).sets within in
     let test : ℕ → Bool = λ k. may_share charts c.args.rank (set_at chart k) in
     let told : test c.loop-k.k ≡ c.all_up.result =
-            sym (up-is charts c.args.rank c.in_ok-flags.flags.items (set_at chart c.loop-k.k) c.in_ok-flags.ensures is.inside)
-            ∙ ap (λ l. all_up c.in_ok-flags.flags.items (get_or l c.loop-k.k [])) (sym c.sets-sets.ensures)
-            ∙ ap (λ f. all_up f (get_or c.sets-sets.result.now c.loop-k.k [])) (sym c.deref.ensures.value)
-            ∙ sym c.all_up.ensures in
+    sym (up-is charts c.args.rank c.in_ok-flags.flags.items (set_at chart c.loop-k.k) c.in_ok-flags.ensures is.inside)
+    ∙ ap (λ l. all_up c.in_ok-flags.flags.items (get_or l c.loop-k.k [])) (sym c.sets-sets.ensures)
+    ∙ ap (λ f. all_up f (get_or c.sets-sets.result.now c.loop-k.k [])) (sym c.deref.ensures.value)
+    ∙ sym c.all_up.ensures in
     elim c.if-all_up.branch [
       | then-all_up+in_ok-push w ↦ kept_more test c.loop-k.k c.loop-k.places.items c.if-all_up.places.items c.loop-k.invariant (told ∙ w.if-all_up.true) (ap (λ (v : Vec ℕ Global). v.items) w.places-is ∙ w.in_ok-push.ensures.items)
       | else-all_up w ↦ ap (λ (v : Vec ℕ Global). v.items) w.places-is ∙ kept_less test c.loop-k.k c.loop-k.places.items c.loop-k.invariant (told ∙ w.if-all_up.false)
