@@ -31,26 +31,25 @@ use Rattle.input_defs.proofs.RefusalRows.{files, refused, two_triangles, with_pl
 
 -- ---- the first line that is not built
 
-lines_ahead : map first_ahead
-    (codes "ranks 1\npart block\npart stripe\npart 0 0\nshow points\n"
-    ∷ codes "ranks 2\npart block\n"
-    ∷ codes "# ranks 2\n\n ranks 01\r\npart block\noverlap 0\n"
-    ∷ codes "dofs u 1 0 0 0\nranks 1\npart block\n"
-    ∷ codes "ranks 1\npart block\nshow points\nshow local\nshow closure\n"
-    ∷ codes "ranks 1\npart block\nshow closure"
-    ∷ codes "ranks 1\npart block\nshow trace\n"
-    ∷ codes "show windows\nranks 64\npart block\n"
-    ∷ [])
-    ≡ None ∷ Some 1 ∷ Some 5 ∷ None ∷ None ∷ None ∷ None ∷ Some 2 ∷ []
-unfolding lines_of tokens_of form_of first_ahead
-lines_ahead = refl
-
--- a plan's own first fault stands before a line that is not built, wherever the two are
+-- a plan's first fault, where a line that is not built is one after all others
 abbrev plan_fault : List ℕ → Option PlanFault
 plan_fault bytes = result_err (built_plan bytes)
 
-faults_before_ahead : map plan_fault (codes "ranks 2\npart block\nparts\n" ∷ codes "ranks 2\npart block\n" ∷ codes "ranks 1\n" ∷ codes "ranks 1\npart block\n" ∷ [])
-    ≡ Some (Word 3) ∷ Some (NotYet 1) ∷ Some (NoPart 2) ∷ None ∷ []
+lines_ahead : map plan_fault
+    (codes "ranks 1\npart block\npart stripe\npart 0 0\nshow points\n"
+    ∷ codes "ranks 2\npart block\n"
+    ∷ codes "# ranks 2\n\n ranks 01\r\npart block\noverlap 0\n"
+    ∷ codes "show windows\nranks 64\npart stripe\ndofs u 1 0 0 0\nshow local"
+    ∷ codes "ranks 2\npart block\nshow trace\npart stripe\n"
+    ∷ codes "ranks 3\npart block\noverlap 1\npart stripe\n"
+    ∷ [])
+    ≡ None ∷ None ∷ Some (NotYet 5) ∷ None ∷ Some (NotYet 4) ∷ Some (NotYet 3) ∷ []
+unfolding lines_of tokens_of form_of with_form plan_from plan_of first_ahead
+lines_ahead = refl
+
+-- a plan's own first fault stands before a line that is not built, wherever the two are
+faults_before_ahead : map plan_fault (codes "ranks 2\npart block\npart block\nparts\n" ∷ codes "ranks 2\npart block\npart block\n" ∷ codes "ranks 1\n" ∷ codes "ranks 1\npart block\n" ∷ [])
+    ≡ Some (Word 4) ∷ Some (NotYet 3) ∷ Some (NoPart 2) ∷ None ∷ []
 unfolding lines_of tokens_of form_of with_form plan_from plan_of first_ahead
 faults_before_ahead = refl
 
@@ -62,10 +61,11 @@ built_by words there = result_err (built_task words (option_and_then (files ther
 order_with_ahead : (built_by (codes "--plan" ∷ codes "p" ∷ []) [] ≡ refused status.Words (codes "words"))
     × (built_by with_plan ((codes "p", codes "ranks 2\npart 5\n") ∷ []) ≡ refused status.ReadFault (codes "read m"))
     × (built_by with_plan ((codes "p", codes "ranks 2\nparts\n") ∷ (codes "m", []) ∷ []) ≡ refused status.Plan (codes "plan line 2 word"))
-    × (built_by with_plan ((codes "p", codes "ranks 2\npart 5\n") ∷ (codes "m", []) ∷ []) ≡ refused status.Plan (codes "plan line 1 not yet"))
+    × (built_by with_plan ((codes "p", codes "ranks 2\npart 5\npart 5\n") ∷ (codes "m", []) ∷ []) ≡ refused status.Plan (codes "plan line 3 not yet"))
     × (built_by with_plan ((codes "p", codes "ranks 1\npart 0\noverlap 1\n") ∷ (codes "m", two_triangles) ∷ []) ≡ refused status.Plan (codes "plan line 3 not yet"))
     × (built_by with_plan ((codes "p", codes "ranks 1\npart 0\n") ∷ (codes "m", two_triangles) ∷ []) ≡ refused status.Plan (codes "plan line 2 part length 1 want 2"))
     × (built_by with_plan ((codes "p", codes "ranks 1\npart 0 0\n") ∷ (codes "m", two_triangles) ∷ []) ≡ None)
+    × (built_by with_plan ((codes "p", codes "ranks 2\npart 0 1\n") ∷ (codes "m", two_triangles) ∷ []) ≡ None)
     × (built_by (codes "m" ∷ []) ((codes "m", two_triangles) ∷ []) ≡ None)
 unfolding line_number lines_from lines_of is_indent name_of tokens_on items_on items_of ahead quoted_on uint_of int_of decimal_of scaled fixed_value fixed_of lexeme_of format name names node nodes_after nodes element elements row section section_of blocks_of misplaced unfinished with_section with_block said content sorted rotations reflections orientations corners_under act relative sights_of first_sight arrangement contains seen_under twist_key kept greatest_dim vertex_nodes cell_elements cells_of marks_of loose_elements section_on row_values mesh_of twist accepted tokens_of form_of with_form plan_from plan_of rank_by misfits misfit made_of with_word request_from request grid_points grid_cells corners_at cells_at made digits words_refused read_refused too_long_refused msh_text mesh_text plan_text twist_refused task_by task first_ahead
-order_with_ahead = (refl, refl, refl, refl, refl, refl, refl, refl)
+order_with_ahead = (refl, refl, refl, refl, refl, refl, refl, refl, refl)

@@ -1,4 +1,4 @@
--- What every plan that is read has: 1 to 64 ranks, a part as its first step, and right counts in its `dofs` lines.
+-- What every plan that is read has: 1 to 64 ranks, a part as its first step, at most 32 steps, and right counts in its `dofs` lines.
 use Rattle.std.proofs.Common.{◌≡◌, ℕ, ◌+◌, ◌≤◌, Bool, true, false, cond, not, ◌&&◌, ◌||◌, ◌==◌, List, [], ◌∷◌, ◌++◌, map, Option, Some, None, Ok, length, refl, sym, ◌∙◌, subst, arith}
 use Rattle.std.specs.Prelude.{Result, nat_lt, nat_le, slice_get, is_none, option_map, find, codes}
 use Rattle.std.specs.List.{list_any, list_all, AllByRecursion}
@@ -113,11 +113,12 @@ counts_of ds = map (λ (d : DofsLine). d.dofs) ds
 record IsRead (b : Before) : Type 0 where
   pub ranks : (n : ℕ) → b.ranks ≡ Some n → (1 ≤ n) × (n ≤ 64)
   pub begins : BeginsWithPart b.moves
+  pub steps : length b.moves ≤ 32
   pub dofs : AreRightDofs (counts_of b.dofs)
 
 -- the same ranks, steps and counts
 read-same : (b next : Before) → b.ranks ≡ next.ranks → b.moves ≡ next.moves → b.dofs ≡ next.dofs → IsRead b → IsRead next
-read-same b next ranks moves dofs read = record { ranks = λ n e. read.ranks n (ranks ∙ e); begins = subst BeginsWithPart moves read.begins; dofs = subst (λ ds. AreRightDofs (counts_of ds)) dofs read.dofs }
+read-same b next ranks moves dofs read = record { ranks = λ n e. read.ranks n (ranks ∙ e); begins = subst BeginsWithPart moves read.begins; steps = subst (λ (ms : List (ℕ × Move)). length ms ≤ 32) moves read.steps; dofs = subst (λ ds. AreRightDofs (counts_of ds)) dofs read.dofs }
 
 the_ok : Before → Result Before PlanFault
 the_ok x = Ok x
@@ -138,6 +139,10 @@ more-dofs ds d right four small few = subst AreRightDofs (sym (map-append (λ (e
   small_counts = all_append (AllByRecursion (λ n. n ≤ 16)) (counts_of ds) (d.dofs ∷ []) right.small_counts (all_weaker (λ n. nat_lt 16 n ≡ false) (λ n. n ≤ 16) (λ n h. ltb-false 16 n h) d.dofs (each_fails (λ n. nat_lt 16 n) d.dofs small), tt);
 })
 
+-- one more step
+one-more : (moves : List (ℕ × Move)) (move : ℕ × Move) → nat_le 32 (length moves) ≡ false → length (moves ++ move ∷ []) ≤ 32
+one-more moves move few = omega (arith, leb-false 32 (length moves) few, length-append moves (move ∷ []))
+
 with_form-read : (b next : Before) (line : ℕ) (form : Option Form) → HasFour form → IsRead b → with_form b line form ≡ Ok next → IsRead next
 unfolding the_ok with_form HasFour
 with_form-read b next line None four read h = absurd (cc h)
@@ -145,22 +150,25 @@ with_form-read b next line (Some (IsRanks r)) four read h =
     let fits = unless-ok _ _ next h in
     let all : AllByRecursion (λ (c : Bool × PlanFault). c.0 ≡ false) ((not (is_none b.ranks), Word line) ∷ ((r == 0) || nat_lt 64 r, Ranks line r) ∷ []) = first_cause-none ((not (is_none b.ranks), Word line) ∷ ((r == 0) || nat_lt 64 r, Ranks line r) ∷ []) fits.0 in
     let range = or_parts (r == 0) (nat_lt 64 r) all.1.0 in
-    subst IsRead fits.1 (record { ranks = λ n e. in-range r n range.0 range.1 e; begins = read.begins; dofs = read.dofs })
-with_form-read b next line (Some (IsMove (Part spread))) four read h = let fits = unless-ok _ _ next h in
-    subst IsRead fits.1 (record { ranks = read.ranks; begins = begins-part b.moves line spread read.begins; dofs = read.dofs })
+    subst IsRead fits.1 (record { ranks = λ n e. in-range r n range.0 range.1 e; begins = read.begins; steps = read.steps; dofs = read.dofs })
+with_form-read b next line (Some (IsMove (Part spread))) four read h =
+    let fits = unless-ok _ _ next h in
+    let causes = (is_none b.ranks, Word line) ∷ (nat_le 32 (length b.moves), Steps line) ∷ [] in
+    let all : AllByRecursion (λ (c : Bool × PlanFault). c.0 ≡ false) causes = first_cause-none causes fits.0 in
+    subst IsRead fits.1 (record { ranks = read.ranks; begins = begins-part b.moves line spread read.begins; steps = one-more b.moves (line, Part spread) all.1.0; dofs = read.dofs })
 with_form-read b next line (Some (IsMove (Layers k))) four read h =
     let fits = unless-ok _ _ next h in
     let causes = (not (has_part b), NoPart line) ∷ (nat_le 32 (length b.moves), Steps line) ∷ (nat_lt 4 (layers_with (layers_of b.moves) (Layers k)), Overlap line (layers_with (layers_of b.moves) (Layers k))) ∷ [] in
     let all : AllByRecursion (λ (c : Bool × PlanFault). c.0 ≡ false) causes = first_cause-none causes fits.0 in
-    subst IsRead fits.1 (record { ranks = read.ranks; begins = begins-more b.moves (line, Layers k) (not-false (has_part b) all.0) read.begins; dofs = read.dofs })
+    subst IsRead fits.1 (record { ranks = read.ranks; begins = begins-more b.moves (line, Layers k) (not-false (has_part b) all.0) read.begins; steps = one-more b.moves (line, Layers k) all.1.0; dofs = read.dofs })
 with_form-read b next line (Some (IsDofs d)) four read h =
     let fits = unless-ok _ _ next h in
     let names = not (is_field_name d.name) || list_any (λ (e : DofsLine). same_list e.name d.name) b.dofs in
     let all : AllByRecursion (λ (c : Bool × PlanFault). c.0 ≡ false) ((names || list_any (λ n. nat_lt 16 n) d.dofs || nat_le 8 (length b.dofs), Dofs line) ∷ []) = first_cause-none ((names || list_any (λ n. nat_lt 16 n) d.dofs || nat_le 8 (length b.dofs), Dofs line) ∷ []) fits.0 in
     let outer = or_parts (names || list_any (λ n. nat_lt 16 n) d.dofs) (nat_le 8 (length b.dofs)) all.0 in
     let inner = or_parts names (list_any (λ n. nat_lt 16 n) d.dofs) outer.0 in
-    subst IsRead fits.1 (record { ranks = read.ranks; begins = read.begins; dofs = more-dofs b.dofs d read.dofs four inner.1 outer.1 })
-with_form-read b next line (Some (IsShow s)) four read h = subst IsRead (same_ok (record b { shows = both b.shows s }) next h) (record { ranks = read.ranks; begins = read.begins; dofs = read.dofs })
+    subst IsRead fits.1 (record { ranks = read.ranks; begins = read.begins; steps = read.steps; dofs = more-dofs b.dofs d read.dofs four inner.1 outer.1 })
+with_form-read b next line (Some (IsShow s)) four read h = subst IsRead (same_ok (record b { shows = both b.shows s }) next h) (record { ranks = read.ranks; begins = read.begins; steps = read.steps; dofs = read.dofs })
 
 with_line-read : (b next : Before) (line : ℕ) (tokens : List (List ℕ)) → IsRead b → with_line b line tokens ≡ Ok next → IsRead next
 unfolding the_ok
@@ -178,6 +186,7 @@ pub record IsReadPlan (plan : Plan) : Type 0 where
   pub few_ranks : plan.ranks ≤ 64
   pub begins : BeginsWithPart plan.moves
   pub some_part : list_any (λ (m : ℕ × Move). is_part m.1) plan.moves ≡ true
+  pub few_steps : length plan.moves ≤ 32
   pub dofs : AreRightDofs (map (λ (d : DofsLine). d.dofs) plan.dofs)
 
 plan_with-read : (b : Before) (line : ℕ) (ranks : Option ℕ) (plan : Plan) → b.ranks ≡ ranks → IsRead b → plan_with b line ranks ≡ Ok plan → IsReadPlan plan
@@ -185,7 +194,7 @@ plan_with-read b line None plan same read h = absurd (cc h)
 plan_with-read b line (Some n) plan same read h =
     let fits = unless-ok _ _ plan h in
     let all : AllByRecursion (λ (c : Bool × PlanFault). c.0 ≡ false) ((not (has_part b), NoPart line) ∷ []) = first_cause-none ((not (has_part b), NoPart line) ∷ []) fits.0 in
-    subst IsReadPlan fits.1 (record { some_rank = (read.ranks n same).0; few_ranks = (read.ranks n same).1; begins = read.begins; some_part = not-false (has_part b) all.0; dofs = read.dofs })
+    subst IsReadPlan fits.1 (record { some_rank = (read.ranks n same).0; few_ranks = (read.ranks n same).1; begins = read.begins; some_part = not-false (has_part b) all.0; few_steps = read.steps; dofs = read.dofs })
 
 plan_from-read : (b : Before) (end line : ℕ) (texts : List (List ℕ)) (plan : Plan) → IsRead b → plan_from b end line texts ≡ Ok plan → IsReadPlan plan
 unfolding plan_from
@@ -197,4 +206,4 @@ plan_from-read b end line (text ∷ texts) plan read h =
 -- what a plan that is read has
 pub plan-read : (bytes : List ℕ) (plan : Plan) → plan_of bytes ≡ Ok plan → IsReadPlan plan
 unfolding plan_of BeginsWithPart
-plan-read bytes plan h = plan_from-read before_any_line (length (lines_of bytes)) 1 (lines_of bytes) plan (record { ranks = λ n e. absurd (cc e); begins = tt; dofs = record { few_lines = omega arith; four_counts = tt; small_counts = tt } }) h
+plan-read bytes plan h = plan_from-read before_any_line (length (lines_of bytes)) 1 (lines_of bytes) plan (record { ranks = λ n e. absurd (cc e); begins = tt; steps = omega arith; dofs = record { few_lines = omega arith; four_counts = tt; small_counts = tt } }) h

@@ -1,11 +1,11 @@
 -- What taken files give is what the words ask for.
-use Rattle.std.proofs.Common.{◌≡◌, ℕ, ◌+◌, ◌<◌, ◌≤◌, Bool, true, false, cond, ltb, List, [], ◌∷◌, ◌++◌, length, Option, Some, None, Ok, Err, refl, sym, ap, subst, ◌∙◌, arith}
+use Rattle.std.proofs.Common.{◌≡◌, ℕ, ◌<◌, ◌≤◌, Bool, cond, List, [], ◌∷◌, length, Option, Some, None, Ok, Err, refl, sym, ap, subst, ◌∙◌, arith}
 use Rattle.std.specs.Prelude.{Result, ok_or, option_and_then, Contains, IfOk, IfErr}
 use Rattle.std.specs.Result.{IsErrAnd}
 use Rattle.std.proofs.lemmas.Bool.{lt-ltb, le-ltb}
 use Rattle.std.proofs.lemmas.List.Elements.{Contains-push, Contains-append_left, Contains-append_right}
-use Rattle.cause_defs.specs.Told.{Told, untold, absent, told, IsWhereTold, IsFrontWhereTold}
-use Rattle.text_defs.specs.Refusals.{most_bytes, words_refused, read_refused, too_long_refused}
+use Rattle.cause_defs.specs.Told.{Told, untold, absent, told, IsWhereTold}
+use Rattle.text_defs.specs.Refusals.{most_bytes, words_refused, too_long_refused}
 use Rattle.mesh_defs.specs.Mesh as meshes
 use Rattle.input_defs.specs.declared.Status.TheVariants as status
 use Rattle.input_defs.specs.Plans as plans
@@ -17,8 +17,8 @@ use Rattle.input_defs.specs.Refused as refused
 use Rattle.input_defs.specs.Refused.{refuse, or_refuse, short_file, plan_refused, mesh_in, plan_asked, mesh_asked, where_fits, task_by}
 use Rattle.input_defs.specs.Ahead.{built_plan}
 use Rattle.input_defs.specs.Generated.{made}
-use Rattle.input_laws.proofs.Causes.{unless-ok, bind-ok}
-use Rattle.headline_defs.specs.Headline.{Asking, AskedFiles, AreFiles, IsFileWhereTold, IsFileNamed, fitting_given, names_asked, listed}
+use Rattle.input_laws.proofs.Causes.{bind-ok}
+use Rattle.headline_defs.specs.Headline.{Asking, AskedFiles, AreFiles, IsFileWhereTold, IsFileNamed, listed}
 use Rattle.headline_defs.specs.Tops.{asking, asking_built}
 use Rattle.report.specs.declared.refusal.Refusal.TheVariants.{Words, Read, TooLong, Plan, Msh, Mesh, Twist}
 use Rattle.job_task.specs.declared.stop.Stop.{Stop}
@@ -26,8 +26,8 @@ use Rattle.job_task.specs.declared.stop.Stop.TheVariants.{Refused, NoMemory}
 use Rattle.job_task.specs.declared.files.Input.{Input}
 use Rattle.job_task.specs.declared.files.Input.TheVariants.{File, Made}
 use Rattle.job_task.specs.Files.{IsShortFile, IsLongFile, IsUntaken, IsTaken, IsStopAt, IsInput}
-use Rattle.job_task.specs.Reading.{plan_given, mesh_given, task_given, IsStopOf, Gives, HasCause, IsStop, IsSayable, IsBuilt, IsReadable, refusal_view}
-use Rattle.job_task.proofs.OneRank.{given-built}
+use Rattle.job_task.specs.Reading.{plan_given, mesh_given, task_given, IsStopOf, Gives, IsStop, IsSayable, IsBuilt, IsReadable, refusal_view}
+use Rattle.job_task.proofs.BuiltSteps.{given-built}
 use Rattle.job_task.proofs.MadeNumbers.{IsSized}
 
 -- ---- what words ask, by their request

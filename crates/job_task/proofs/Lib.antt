@@ -1,3 +1,3 @@
 pub mod Giving
 pub mod MadeNumbers
-pub mod OneRank
+pub mod BuiltSteps

@@ -1,5 +1,5 @@
 -- What plan bytes and a mesh's file give, and what reading them answers.
-use Rattle.std.specs.Prelude.{◌≡◌, ℕ, ◌≤◌, Bool, true, List, length, Option, Some, None, Result, Ok, Err, Contains}
+use Rattle.std.specs.Prelude.{◌≡◌, ◌⊎◌, ℕ, ◌≤◌, Bool, true, List, length, Option, Some, None, Result, Ok, Err, Contains}
 use Rattle.std.specs.List.{AllByRecursion}
 use Rattle.cause_defs.specs.Told.{Told}
 use Rattle.text_defs.specs.Refusals.{most_bytes}
@@ -98,15 +98,15 @@ IsStop a file failed (Refused refusal) = HasCause a file failed refusal
 abbrev pub IsSayable : Stop → Type 0
 IsSayable stop = WhereRefused stop HasLine
 
--- the plan is for one rank, and has few steps and no layers of overlap
-pub record IsOfOneRank (plan : plans.Plan) : Type 0 where
-  pub one : plan.ranks ≡ 1
+-- the plan has few steps, all of them parts, and one alone where there is more than one rank
+pub record HasBuiltSteps (plan : plans.Plan) : Type 0 where
   pub parts : AllByRecursion (λ (move : ℕ × plans.Move). is_part move.1 ≡ true) plan.moves
+  pub single : (plan.ranks ≡ 1) ⊎ (length plan.moves ≡ 1)
   pub steps : length plan.moves ≤ 32
 
--- so is a task's plan, which some bytes say, and it fits the mesh
+-- so does a task's plan, which some bytes say, and it fits the mesh
 pub record IsBuilt (task : refused.Task) : Type 0 where
   pub bytes : List ℕ
   pub said : plan_of bytes ≡ Ok task.plan
-  pub plan : IsOfOneRank task.plan
+  pub plan : HasBuiltSteps task.plan
   pub fits : misfit task.plan (length task.mesh.cells) ≡ None

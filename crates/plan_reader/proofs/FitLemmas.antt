@@ -123,14 +123,14 @@ at_move (x ∷ moves) zero m e part = ap (λ (m : MoveLine). spread_of (move_lin
 at_move (x ∷ moves) (suc i) m e part = at_move moves i m e part
 
 -- it is the move that stands there
-pub part_at : (p : PlanText) (ranks : ℕ) (moves : List MoveLine) (dofs : List DofsLine) (shows : Show) (ahead : Option ℕ) (i : ℕ) (m : MoveLine) (s : StoredSpread) → plan_text ranks moves dofs shows ahead ≡ p
+pub part_at : (p : PlanText) (ranks : ℕ) (moves : List MoveLine) (dofs : List DofsLine) (shows : Show) (i : ℕ) (m : MoveLine) (s : StoredSpread) → plan_text ranks moves dofs shows ≡ p
     → m ≡ get_or moves i m → m.what ≡ move.Part s → IsSome (spread_at p.plan.moves i) → spread_at p.plan.moves i ≡ Some (spread_view s)
-part_at p ranks moves dofs shows ahead i m s e m-is what =
+part_at p ranks moves dofs shows i m s e m-is what =
     subst (λ (p : PlanText). IsSome (spread_at p.plan.moves i) → spread_at p.plan.moves i ≡ Some (spread_view s)) e
     (λ part. at_move moves i m m-is part ∙ ap (λ (w : StoredMove). spread_of (m.line, move_view w)) what)
 
-pub no_part_at : (p : PlanText) (ranks : ℕ) (moves : List MoveLine) (dofs : List DofsLine) (shows : Show) (ahead : Option ℕ) (i : ℕ) (m : MoveLine) (k : ℕ) → plan_text ranks moves dofs shows ahead ≡ p
+pub no_part_at : (p : PlanText) (ranks : ℕ) (moves : List MoveLine) (dofs : List DofsLine) (shows : Show) (i : ℕ) (m : MoveLine) (k : ℕ) → plan_text ranks moves dofs shows ≡ p
     → m ≡ get_or moves i m → m.what ≡ move.Layers k → IsSome (spread_at p.plan.moves i) → ⊥
-no_part_at p ranks moves dofs shows ahead i m k e m-is what =
+no_part_at p ranks moves dofs shows i m k e m-is what =
     subst (λ (p : PlanText). IsSome (spread_at p.plan.moves i) → ⊥) e
     (λ part. some_none (subst IsSome (at_move moves i m m-is part ∙ ap (λ (w : StoredMove). spread_of (m.line, move_view w)) what) part))

@@ -3,3 +3,4 @@ pub mod FormLemmas
 pub mod FitLemmas
 pub mod Takes
 pub mod Loop
+pub mod AheadLemmas

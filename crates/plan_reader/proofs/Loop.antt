@@ -1,15 +1,14 @@
 -- A plan read line by line.
-use Rattle.std.proofs.Common.{◌≡◌, ◌≢◌, ℕ, ◌+◌, ◌≤◌, Bool, true, false, List, [], ◌∷◌, length, Option, Some, None, Ok, Err, refl, sym, ap, ◌∙◌, arith}
-use Rattle.std.specs.Prelude.{Result, IfOk, IfErr, IfSome, option_map, if◌then◌else◌}
+use Rattle.std.proofs.Common.{◌≡◌, ◌≢◌, ℕ, ◌+◌, ◌≤◌, List, [], ◌∷◌, length, Option, Some, None, Ok, Err, refl, sym, ap, ◌∙◌, arith}
+use Rattle.std.specs.Prelude.{Result, IfOk, IfErr, IfSome, option_map}
 use Rattle.std.specs.Borrow.{Bor}
 use Rattle.line_defs.specs.Rows.{lines_of, tokens_of}
 use Rattle.input_defs.specs.declared.PlanFault.{PlanFault}
 use Rattle.input_defs.specs.declared.PlanFault.TheVariants.{NoMemory}
 use Rattle.input_defs.specs.Causes.{map_ok}
 use Rattle.input_defs.specs.Plans.{Before, Plan, before_any_line, plan_from, plan_of, plan_with, with_line}
-use Rattle.input_defs.specs.Ahead.{ahead_from, first_ahead, line_is_ahead}
 use Rattle.plan_reader.specs.Reading.{bytes_left}
-use Rattle.plan_reader.specs.Drafts.{PlanText, ahead_with, first_some}
+use Rattle.plan_reader.specs.Drafts.{PlanText}
 
 -- ---- the plan
 
@@ -39,25 +38,6 @@ plan_ends wanted b end line next lines e last so_far =
 pub finished : (found : Result PlanText PlanFault) (wanted last : Result Plan PlanFault) → map_ok (λ p. p.plan) found ≡ last → wanted ≡ last → IfOk found (λ p. wanted ≡ Ok p.plan) × IfErr found (λ e. e ≢ NoMemory → wanted ≡ Err e)
 finished (Ok p) wanted last e so_far = (so_far ∙ sym e, tt)
 finished (Err fault) wanted last e so_far = (tt, λ _. so_far ∙ sym e)
-
--- ---- the first line that is not built yet
-
-pub ahead_start : (bytes : List ℕ) → first_ahead bytes ≡ ahead_from 1 (lines_of bytes)
-unfolding first_ahead
-ahead_start bytes = refl
-
-first_of_three : (ahead : Option ℕ) (line : ℕ) (is_ahead : Bool) (rest : Option ℕ) → first_some ahead (if is_ahead then Some line else rest) ≡ first_some (ahead_with ahead line is_ahead) rest
-first_of_three (Some n) line is_ahead rest = refl
-first_of_three None line true rest = refl
-first_of_three None line false rest = refl
-
-pub ahead_more : (wanted ahead next : Option ℕ) (line : ℕ) (lines : List (List ℕ)) (text : List ℕ) (after : List (List ℕ)) → lines ≡ text ∷ after → next ≡ ahead_with ahead line (line_is_ahead (tokens_of text))
-    → wanted ≡ first_some ahead (ahead_from line lines) → wanted ≡ first_some next (ahead_from (line + 1) after)
-ahead_more wanted ahead next line lines text after e read so_far = so_far ∙ rw (e, read) (first_of_three ahead line (line_is_ahead (tokens_of text)) (ahead_from (line + 1) after))
-
-pub ahead_ends : (wanted ahead found : Option ℕ) (line : ℕ) (lines : List (List ℕ)) → lines ≡ [] → wanted ≡ first_some ahead (ahead_from line lines) → found ≡ ahead → found ≡ wanted
-ahead_ends wanted (Some n) found line lines e so_far same = same ∙ sym so_far
-ahead_ends wanted None found line lines e so_far same = same ∙ sym (so_far ∙ rw e refl)
 
 -- ---- what is left
 

@@ -14,7 +14,7 @@ use Rattle.input_defs.specs.Plans as plans
 use Rattle.input_defs.specs.Plans.{Before, IsDofs, IsMove, Move, Part, Layers, is_part, layers_of, layers_with, form_of, with_form, with_line, plan_with, is_field_name, is_letter}
 use Rattle.input_defs.specs.declared.Show.{Show}
 use Rattle.plan_reader.specs.declared.moves.MoveLine.{MoveLine}
-use Rattle.plan_reader.specs.Drafts.{Drafted, drafted, counts_of, spread_at}
+use Rattle.plan_reader.specs.Drafts.{drafted, counts_of, spread_at}
 use Rattle.plan_reader.proofs.FitLemmas.{some_none}
 use Rattle.plan_reader.specs.declared.moves.DofsLine.{DofsLine}
 use Rattle.plan_reader.specs.Reading.{dofs_view, dofs_views, move_views}
@@ -80,10 +80,10 @@ module _ (b : Before) (line k : ℕ) (moves : List (ℕ × Move)) (are : b.moves
   layers-high total few is high = rw (are, part, lt-leb 32 (length moves) few, ← is, lt-ltb 4 total high) refl
 
 -- at the end, with ranks and a part
-pub plan_with-is : (d : Drafted) (ranks : Option ℕ) (moves : List MoveLine) (dofs : List DofsLine) (shows : Show) (ahead : Option ℕ) (line n : ℕ) → drafted ranks moves dofs shows ahead ≡ d → ranks ≡ Some n
+pub plan_with-is : (d : Before) (ranks : Option ℕ) (moves : List MoveLine) (dofs : List DofsLine) (shows : Show) (line n : ℕ) → drafted ranks moves dofs shows ≡ d → ranks ≡ Some n
     → list_any (λ (m : ℕ × Move). is_part m.1) (move_views moves) ≡ true
-    → Ok (record { ranks = n; moves = move_views moves; dofs = dofs_views dofs; shows = shows }) ≡ plan_with d.before line d.before.ranks
-plan_with-is d ranks moves dofs shows ahead line n e some part = rw (← e, some, part) refl
+    → Ok (record { ranks = n; moves = move_views moves; dofs = dofs_views dofs; shows = shows }) ≡ plan_with d line d.ranks
+plan_with-is d ranks moves dofs shows line n e some part = rw (← e, some, part) refl
 
 -- ---- one line
 

@@ -1,5 +1,5 @@
 -- What was read of a plan up to a line, and a plan, as they are kept.
-use Rattle.std.specs.Prelude.{◌≡◌, ℕ, ◌^◌, ◌<◌, ◌≤◌, Bool, if◌then◌else◌, List, Option, Some, None, option_and_then, slice_get, length, map}
+use Rattle.std.specs.Prelude.{◌≡◌, ℕ, ◌^◌, ◌<◌, ◌≤◌, List, Option, Some, None, option_and_then, slice_get, length, map}
 use Rattle.std.specs.Option.{ForSome, IsSome}
 use Rattle.input_defs.specs.declared.Show.{Show}
 use Rattle.plex_defs.specs.Fields.{AreRightDofs}
@@ -9,13 +9,8 @@ use Rattle.plan_reader.specs.declared.moves.MoveLine.{MoveLine}
 use Rattle.plan_reader.specs.declared.moves.DofsLine.{DofsLine}
 use Rattle.plan_reader.specs.Reading.{move_views, dofs_views}
 
--- what was read, and the first line that is not built yet
-pub record Drafted : Type 0 where
-  pub before : Before
-  pub ahead : Option ℕ
-
-abbrev pub drafted : Option ℕ → List MoveLine → List DofsLine → Show → Option ℕ → Drafted
-drafted ranks moves dofs shows ahead = record { before = record { ranks = ranks; moves = move_views moves; dofs = dofs_views dofs; shows = shows }; ahead = ahead }
+abbrev pub drafted : Option ℕ → List MoveLine → List DofsLine → Show → Before
+drafted ranks moves dofs shows = record { ranks = ranks; moves = move_views moves; dofs = dofs_views dofs; shows = shows }
 
 -- how many words each section has by dimension
 abbrev pub counts_of : List lines.DofsLine → List (List ℕ)
@@ -43,21 +38,11 @@ abbrev pub HasFewLayers : Form → Type 0
 HasFewLayers (IsMove (Layers k)) = k < 10 ^ 9
 HasFewLayers _ = Unit {0}
 
--- the first of two, where there is one
-abbrev pub first_some : Option ℕ → Option ℕ → Option ℕ
-first_some (Some n) other = Some n
-first_some None other = other
-
--- the first line that is not built yet, where this line is looked at after others
-abbrev pub ahead_with : Option ℕ → ℕ → Bool → Option ℕ
-ahead_with ahead line is_ahead = first_some ahead (if is_ahead then Some line else None)
-
 -- ---- a plan
 
--- what a plan file says, and its first line that is not built yet
+-- what a plan file says
 pub record PlanText : Type 0 where
   pub plan : Plan
-  pub ahead : Option ℕ
 
-abbrev pub plan_text : ℕ → List MoveLine → List DofsLine → Show → Option ℕ → PlanText
-plan_text ranks moves dofs shows ahead = record { plan = record { ranks = ranks; moves = move_views moves; dofs = dofs_views dofs; shows = shows }; ahead = ahead }
+abbrev pub plan_text : ℕ → List MoveLine → List DofsLine → Show → PlanText
+plan_text ranks moves dofs shows = record { plan = record { ranks = ranks; moves = move_views moves; dofs = dofs_views dofs; shows = shows } }

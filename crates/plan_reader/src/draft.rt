@@ -1,15 +1,14 @@
 //! What was read of a plan up to a line.
 
-ghost use Rattle.std.specs.Prelude.{◌≡◌, ◌<◌, ◌^◌, ◌||◌, [], ◌∷◌, ◌++◌, length, nat_le, nat_lt, not, Ok, Some, None, option_map, IfOk, OnOk};
+ghost use Rattle.std.specs.Prelude.{◌≡◌, ◌<◌, ◌^◌, ◌||◌, [], ◌∷◌, ◌++◌, length, nat_le, nat_lt, not, Ok, Some};
 ghost use Rattle.std.specs.List.{list_all, list_any};
 ghost use Rattle.plain_lists.specs.Lists.{same_list};
 ghost use Rattle.line_defs.specs.Rows.{tokens_of};
 ghost use Rattle.input_defs.specs.Causes.{map_ok};
 ghost use Rattle.input_defs.specs.Plans.{IsRanks, IsMove, IsDofs, Part, Layers, before_any_line, with_form, with_line, plan_with, is_field_name, is_letter, both};
 ghost use Rattle.plan_reader.specs.Reading.{Gives, ok_as, form_view, spread_view};
-ghost use Rattle.input_defs.specs.Ahead.{line_is_ahead};
 ghost use Rattle.plex_defs.specs.Fields.{AreRightDofs};
-ghost use Rattle.plan_reader.specs.Drafts.{ahead_with, counts_of, HasFewLayers};
+ghost use Rattle.plan_reader.specs.Drafts.{counts_of, HasFewLayers};
 
 use crate::forms::{Form, read_form};
 use crate::moves::{DofsLine, Move, MoveLine, Spread};
@@ -32,17 +31,16 @@ pub(crate) struct Draft {
     layers: u32,
     dofs: Vec<DofsLine>,
     shows: Show,
-    /// The first line that is not built yet.
-    ahead: Option<u32>,
 }
 
 impl Model for Draft {
-    ghost use Rattle.plan_reader.specs.Drafts.{Drafted, drafted, IsDraft};
+    ghost use Rattle.input_defs.specs.Plans.{Before};
+    ghost use Rattle.plan_reader.specs.Drafts.{drafted, IsDraft};
     ghost use Rattle.plan_reader.specs.Reading.{move_views, dofs_views};
 
-    ghost Value = { Drafted };
+    ghost Value = { Before };
 
-    ghost view = { λ d. drafted d.ranks d.moves.items d.dofs.items d.shows d.ahead };
+    ghost view = { λ d. drafted d.ranks d.moves.items d.dofs.items d.shows };
 
     ghost invariant = { λ d. IsDraft d.ranks d.layers (move_views d.moves.items) (dofs_views d.dofs.items) };
 }
@@ -112,7 +110,7 @@ fn is_wrong(sections: &[DofsLine], name: &[u8], dofs: [u32; 4]) -> bool
 impl Draft {
     /// What is known before any line.
     pub(crate) fn new(alloc: Global) -> Draft
-        ensures { result ≡ record { before = before_any_line; ahead = None } }
+        ensures { result ≡ before_any_line }
     {
         Draft {
             ranks: None,
@@ -120,15 +118,13 @@ impl Draft {
             layers: 0,
             dofs: Vec::new(alloc),
             shows: Show::default(),
-            ahead: None,
         }
     }
 
     /// Takes `ranks n`.
     #[tactic(auto, unfolding(input_defs::specs::Plans::with_form))]
     fn take_ranks(&mut self, line: u32, n: u32) -> Result<(), PlanFault>
-        ensures before { Gives (ok_as self.new.before result) (with_form self.old.before line (Some (IsRanks n))) }
-        ensures ahead { self.new.ahead ≡ self.old.ahead }
+        ensures { Gives (ok_as self.new result) (with_form self.old line (Some (IsRanks n))) }
     {
         if self.ranks.is_some() {
             return Err(PlanFault::Word { line });
@@ -143,8 +139,7 @@ impl Draft {
     /// Takes a part.
     #[tactic(auto, unfolding(input_defs::specs::Plans::with_form))]
     fn take_part(&mut self, line: u32, spread: Spread) -> Result<(), PlanFault>
-        ensures before { Gives (ok_as self.new.before result) (with_form self.old.before line (Some (IsMove (Part (spread_view spread))))) }
-        ensures ahead { self.new.ahead ≡ self.old.ahead }
+        ensures { Gives (ok_as self.new result) (with_form self.old line (Some (IsMove (Part (spread_view spread))))) }
     {
         if self.ranks.is_none() {
             return Err(PlanFault::Word { line });
@@ -164,8 +159,7 @@ impl Draft {
     #[tactic(auto, unfolding(input_defs::specs::Plans::with_form))]
     fn take_layers(&mut self, line: u32, k: u32) -> Result<(), PlanFault>
         requires { k < 10 ^ 9 }
-        ensures before { Gives (ok_as self.new.before result) (with_form self.old.before line (Some (IsMove (Layers k)))) }
-        ensures ahead { self.new.ahead ≡ self.old.ahead }
+        ensures { Gives (ok_as self.new result) (with_form self.old line (Some (IsMove (Layers k)))) }
     {
         if self.moves.is_empty() {
             return Err(PlanFault::NoPart { line });
@@ -187,9 +181,8 @@ impl Draft {
 
     /// Adds a section, where no more than eight have no more than 16 words each.
     fn add_dofs(&mut self, alloc: Global, name: &[u8], dofs: [u32; 4]) -> Result<(), PlanFault>
-        requires { AreRightDofs (counts_of self.old.before.dofs ++ dofs ∷ []) }
-        ensures before { Gives (ok_as self.new.before result) (Ok (record self.old.before { dofs = self.old.before.dofs ++ record { name = name.now; dofs = dofs } ∷ [] })) }
-        ensures ahead { self.new.ahead ≡ self.old.ahead }
+        requires { AreRightDofs (counts_of self.old.dofs ++ dofs ∷ []) }
+        ensures { Gives (ok_as self.new result) (Ok (record self.old { dofs = self.old.dofs ++ record { name = name.now; dofs = dofs } ∷ [] })) }
     {
         let name = Vec::from_slice(alloc, name).map_err(|_| PlanFault::NoMemory)?;
         self.dofs
@@ -207,8 +200,7 @@ impl Draft {
         name: &[u8],
         dofs: [u32; 4],
     ) -> Result<(), PlanFault>
-        ensures before { Gives (ok_as self.new.before result) (with_form self.old.before line (Some (IsDofs (record { name = name.now; dofs = dofs })))) }
-        ensures ahead { self.new.ahead ≡ self.old.ahead }
+        ensures { Gives (ok_as self.new result) (with_form self.old line (Some (IsDofs (record { name = name.now; dofs = dofs })))) }
     {
         if is_wrong(&self.dofs, name, dofs) {
             return Err(PlanFault::Dofs { line });
@@ -220,8 +212,7 @@ impl Draft {
     #[tactic(auto, unfolding(input_defs::specs::Plans::with_form))]
     fn take(&mut self, alloc: Global, line: u32, form: Form<'_>) -> Result<(), PlanFault>
         requires { HasFewLayers (form_view form) }
-        ensures before { Gives (ok_as self.new.before result) (with_form self.old.before line (Some (form_view form.entry))) }
-        ensures ahead { self.new.ahead ≡ self.old.ahead }
+        ensures { Gives (ok_as self.new result) (with_form self.old line (Some (form_view form.entry))) }
     {
         match form {
             Form::Ranks(n) => self.take_ranks(line, n),
@@ -235,15 +226,6 @@ impl Draft {
         }
     }
 
-    /// Notes whether a line is the first that is not built yet.
-    fn look_ahead(&mut self, line: u32, is_ahead: bool)
-        ensures { self.new ≡ record self.old { ahead = ahead_with self.old.ahead line is_ahead } }
-    {
-        if self.ahead.is_none() && is_ahead {
-            self.ahead = Some(line);
-        }
-    }
-
     /// Reads a line, which has this number.
     pub(crate) fn read_line(
         &mut self,
@@ -252,8 +234,7 @@ impl Draft {
         text: &[u8],
     ) -> Result<(), PlanFault>
         requires { length text.now < 2 ^ 32 }
-        ensures before { Gives (ok_as self.new.before result) (with_line self.old.before line (tokens_of text.now)) }
-        ensures ahead { OnOk result (self.new.ahead ≡ ahead_with self.old.ahead line (line_is_ahead (tokens_of text.now))) }
+        ensures { Gives (ok_as self.new result) (with_line self.old line (tokens_of text.now)) }
     {
         let Some((word, rest)) = token(text) else {
             return Ok(());
@@ -264,14 +245,12 @@ impl Draft {
         let Some(form) = read_form(alloc, word, rest).map_err(|_| PlanFault::NoMemory)? else {
             return Err(PlanFault::Word { line });
         };
-        self.look_ahead(line, form.is_ahead());
         self.take(alloc, line, form)
     }
 
     /// The plan, where its end is on this line.
     pub(crate) fn finish(self, line: u32) -> Result<Plan, PlanFault>
-        ensures plan { map_ok (λ p. p.plan) result ≡ plan_with self.before line self.before.ranks }
-        ensures ahead { IfOk result (λ p. p.ahead ≡ self.ahead) }
+        ensures { map_ok (λ p. p.plan) result ≡ plan_with self line self.ranks }
     {
         let Some(ranks) = self.ranks else {
             return Err(PlanFault::NoPart { line });
@@ -284,7 +263,6 @@ impl Draft {
             moves: self.moves,
             dofs: self.dofs,
             shows: self.shows,
-            ahead: self.ahead,
         })
     }
 }

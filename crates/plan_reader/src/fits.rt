@@ -1,7 +1,8 @@
-//! Whether a plan fits a mesh, and the ranks that its parts assign.
+//! Whether a plan fits a mesh, the ranks that its parts assign, and its first step that is not built yet.
 
-ghost use Rattle.std.specs.Prelude.{◌≡◌, ◌<◌, ◌≤◌, length, find, nat_le};
+ghost use Rattle.std.specs.Prelude.{◌≡◌, ◌<◌, ◌≤◌, length, drop, find, nat_le, option_map};
 ghost use Rattle.std.specs.List.{flat_map};
+ghost use Rattle.input_defs.specs.Ahead.{is_ahead};
 ghost use Rattle.input_defs.specs.Causes.{first_cause, unless};
 ghost use Rattle.input_defs.specs.Plans.{misfits, rank_by};
 ghost use Rattle.plan_reader.specs.Reading.{move_line_view, move_views, spread_view};
@@ -65,6 +66,29 @@ pub(crate) fn first_misfit(ranks: u32, cells: u32, moves: &[MoveLine]) -> Result
         move_fits(m, ranks, cells)?;
     }
     Ok(())
+}
+
+/// Whether a step after the first one is read and not built yet.
+fn is_ahead(ranks: u32, m: &MoveLine) -> bool
+    ensures { result ≡ is_ahead ranks (move_line_view m.now) }
+{
+    match m.what {
+        Move::Part(_) => ranks >= 2,
+        Move::Layers(_) => true,
+    }
+}
+
+/// The line of the first step that is read and not built yet.
+pub(crate) fn line_ahead(ranks: u32, moves: &[MoveLine]) -> Option<u32>
+    ensures { result ≡ option_map (λ m. m.0) (find (is_ahead ranks) (drop 1 (move_views moves.now))) }
+{
+    for i in 1..moves.len() {
+        let m = &moves[i];
+        if is_ahead(ranks, m) {
+            return Some(m.line);
+        }
+    }
+    None
 }
 
 impl Spread {

@@ -3,7 +3,6 @@
 ghost use Rattle.std.specs.Prelude.{◌≡◌, ◌<◌, ◌^◌, length, codes, option_map, IfOk, IfSome};
 ghost use Rattle.line_defs.specs.Rows.{tokens_of};
 ghost use Rattle.input_defs.specs.Plans.{form_of, part_of, dofs_of, show_of, IsMove, Part};
-ghost use Rattle.input_defs.specs.Ahead.{is_ahead};
 ghost use Rattle.plan_reader.specs.Reading.{form_view, spread_view};
 ghost use Rattle.plan_reader.specs.Drafts.{HasFewLayers};
 
@@ -122,17 +121,4 @@ pub(crate) fn read_form<'a>(
         return Ok(show(line));
     }
     Ok(None)
-}
-
-impl Form<'_> {
-    /// Whether what the line says is read and not built yet.
-    pub(crate) fn is_ahead(&self) -> bool
-        ensures { result ≡ is_ahead (form_view self.now) }
-    {
-        match self {
-            Form::Ranks(n) => *n >= 2,
-            Form::Move(Move::Layers(_)) => true,
-            Form::Move(Move::Part(_)) | Form::Dofs(..) | Form::Show(_) => false,
-        }
-    }
 }

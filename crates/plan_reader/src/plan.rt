@@ -2,12 +2,13 @@
 
 ghost use Rattle.std.specs.Prelude.{◌≡◌, ◌<◌, ◌≤◌, length, None, Some, option_map, IfOk, OnOk, IsSome};
 ghost use Rattle.std.specs.List.{slice_get};
+ghost use Rattle.input_defs.specs.Ahead.{first_ahead};
 ghost use Rattle.input_defs.specs.Causes.{unless};
 ghost use Rattle.input_defs.specs.Plans.{misfit, plain_plan, rank_by, step_of};
 ghost use Rattle.plex_defs.specs.Fields.{AreRightDofs};
 ghost use Rattle.plan_reader.specs.Drafts.{counts_of, spread_at};
 
-use crate::fits::first_misfit;
+use crate::fits::{first_misfit, line_ahead};
 use crate::moves::{DofsLine, Move, MoveLine, Spread};
 use input_defs::{PlanFault, Show, Step};
 use plex_base::NoMemory;
@@ -22,8 +23,6 @@ pub struct Plan {
     pub(crate) moves: Vec<MoveLine>,
     pub(crate) dofs: Vec<DofsLine>,
     pub(crate) shows: Show,
-    /// The first line that is not built yet.
-    pub(crate) ahead: Option<u32>,
 }
 
 impl Model for Plan {
@@ -34,7 +33,7 @@ impl Model for Plan {
 
     ghost Value = { PlanText };
 
-    ghost view = { λ p. plan_text p.ranks p.moves.items p.dofs.items p.shows p.ahead };
+    ghost view = { λ p. plan_text p.ranks p.moves.items p.dofs.items p.shows };
 
     ghost invariant = { λ p. (1 ≤ p.ranks) × (p.ranks ≤ 64) × AreRightDofs (counts_of (dofs_views p.dofs.items)) × IsSome (spread_at (move_views p.moves.items) 0) };
 }
@@ -44,7 +43,7 @@ impl Plan {
     ///
     /// Fails only for want of memory.
     pub fn plain(alloc: Global) -> Result<Plan, NoMemory>
-        ensures { IfOk result (λ p. p ≡ record { plan = plain_plan; ahead = None }) }
+        ensures { IfOk result (λ p. p.plan ≡ plain_plan) }
     {
         let what = Move::Part(Spread::Block);
         let mut moves = Vec::new(alloc);
@@ -56,7 +55,6 @@ impl Plan {
             moves,
             dofs: Vec::new(alloc),
             shows,
-            ahead: None,
         })
     }
 
@@ -131,11 +129,13 @@ impl Plan {
         (&section.name, section.dofs)
     }
 
-    /// The first line of the plan file that is read and not built yet, if there is one.
+    /// The line of the first step that is read and not built yet, if there is one: layers of overlap,
+    /// or on two ranks or more a second part. Takes no memory.
+    #[tactic(auto, unfolding(input_defs::specs::Ahead::first_ahead))]
     pub fn ahead(&self) -> Option<u32>
-        ensures { result ≡ self.now.ahead }
+        ensures { result ≡ first_ahead self.now.plan }
     {
-        self.ahead
+        line_ahead(self.ranks, &self.moves)
     }
 
     /// Whether the plan fits a mesh of so many cells. Takes no memory.

@@ -3,7 +3,6 @@
 ghost use Rattle.std.specs.Prelude.{◌≡◌, ◌≢◌, ◌≤◌, length, Ok, Err, IfOk, IfErr};
 ghost use Rattle.input_defs.specs.declared.PlanFault.TheVariants.{NoMemory};
 ghost use Rattle.input_defs.specs.Plans.{plan_of};
-ghost use Rattle.input_defs.specs.Ahead.{first_ahead};
 
 use crate::draft::Draft;
 use crate::plan::Plan;
@@ -22,8 +21,6 @@ pub fn read_plan(alloc: Global, bytes: &[u8]) -> Result<Plan, PlanFault>
     requires { length bytes.now ≤ MAX_FILE_BYTES }
     ensures plan { IfOk result (λ p. plan_of bytes.now ≡ Ok p.plan) }
     ensures fault { IfErr result (λ e. e ≢ NoMemory → plan_of bytes.now ≡ Err e) }
-    // The first line that is not built yet.
-    ensures ahead { IfOk result (λ p. p.ahead ≡ first_ahead bytes.now) }
 {
     let mut draft = Draft::new(alloc);
     let mut line = 0;

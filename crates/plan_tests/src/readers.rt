@@ -28,7 +28,7 @@ fn what_the_lines_say(rt: HostRuntime) -> Result<(), Fail> {
     shows.local = true;
     shows.trace = true;
     assert_eq!(rt; plan.show(), shows);
-    assert_eq!(rt; plan.ahead(), Some(3));
+    assert_eq!(rt; plan.ahead(), Some(5));
     Ok(())
 }
 
@@ -60,7 +60,9 @@ fn without_a_file(rt: HostRuntime) -> Result<(), Fail> {
 fn lines_that_are_not_built_yet(rt: HostRuntime) -> Result<(), Fail> {
     for (text, ahead) in [
         ("ranks 1\npart block\npart stripe\nshow points\n", None),
-        ("ranks 2\npart block\noverlap 1\n", Some(1)),
+        ("ranks 2\npart block\nshow points\n", None),
+        ("ranks 2\npart block\noverlap 1\n", Some(3)),
+        ("ranks 2\npart block\n\npart stripe\n", Some(4)),
         ("ranks 1\npart block\n\noverlap 0\nshow local\n", Some(4)),
         ("dofs u 0 0 0 0\nranks 1\npart block\n", None),
         ("ranks 1\nshow points\nshow windows\npart block\n", None),

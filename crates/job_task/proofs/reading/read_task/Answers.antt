@@ -1,8 +1,7 @@
-use Rattle.std.proofs.Common.{◌≡◌, ℕ, List, Some, None, Ok, Err, sym, ap, subst, ◌∙◌}
+use Rattle.std.proofs.Common.{Some, None, Ok, Err, sym, ap, subst, ◌∙◌}
 use Rattle.std.specs.Prelude.{map, string_bytes, option_map}
 use Rattle.cause_defs.specs.Faults.{FailsTake, Rises}
 use Rattle.job_words.specs.Asking.{request_view}
-use Rattle.headline_defs.specs.Headline.{Asking}
 use Rattle.report.specs.declared.refusal.Refusal.TheVariants.{Words}
 use Rattle.job_task.specs.Files.{bytes_of}
 use Rattle.job_task.specs.Reading.{Gives, IsStop, IsSayable, refusal_view, task_view, mesh_given}

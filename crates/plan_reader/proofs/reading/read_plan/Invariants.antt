@@ -2,15 +2,12 @@ use Rattle.std.proofs.Common.{◌≡◌, ◌+◌, ◌≤◌, length}
 use Rattle.std.specs.Prelude.{option_map}
 use Rattle.line_defs.specs.Rows.{lines_of}
 use Rattle.input_defs.specs.Plans.{plan_of, plan_from}
-use Rattle.input_defs.specs.Ahead.{first_ahead, ahead_from}
 use Rattle.plan_reader.specs.Reading.{lines_left, bytes_left}
-use Rattle.plan_reader.specs.Drafts.{first_some}
 use Rattle.plan_reader.proofs.reading.read_plan.Given as goal
 
 abbrev pub invariant-loop-left : goal.invariant-loop-left
 invariant-loop-left l = record {
-  plan : plan_of l.bytes ≡ plan_from l.draft.before (length (lines_of l.bytes)) (l.line + 1) (lines_left (option_map (λ rest. rest.now) l.left));
-  ahead : first_ahead l.bytes ≡ first_some l.draft.ahead (ahead_from (l.line + 1) (lines_left (option_map (λ rest. rest.now) l.left)));
+  plan : plan_of l.bytes ≡ plan_from l.draft (length (lines_of l.bytes)) (l.line + 1) (lines_left (option_map (λ rest. rest.now) l.left));
   lines : l.line + length (lines_left (option_map (λ rest. rest.now) l.left)) ≡ length (lines_of l.bytes);
   short : bytes_left (option_map (λ rest. rest.now) l.left) ≤ length l.bytes;
 }
