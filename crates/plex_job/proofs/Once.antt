@@ -1,5 +1,5 @@
 -- Plans that spread a mesh once: which they are, what stands after their steps, and the rounds that are due.
-use Rattle.std.proofs.Common.{◌≡◌, ℕ, zero, suc, ◌+◌, ◌<◌, ◌≤◌, true, List, [], ◌∷◌, map, length, get_or, None, Ok, refl, sym, ap, ◌∙◌, subst, arith}
+use Rattle.std.proofs.Common.{◌≡◌, ◌⊎◌, ℕ, zero, suc, ◌+◌, ◌<◌, ◌≤◌, true, List, [], ◌∷◌, map, length, get_or, None, Ok, refl, sym, ap, ◌∙◌, subst, arith, inl, inr}
 use Rattle.std.specs.Prelude.{Contains}
 use Rattle.std.specs.List.{AllByRecursion, list_any}
 use Rattle.std.proofs.lemmas.List.{length-map}
@@ -84,7 +84,11 @@ module _ (bytes : List ℕ) (plan : Plan) (m : Mesh) (read : plan_of bytes ≡ O
 
 -- the plan of a task that is built
 pub built-once : (t : Task) → IsBuilt t → IsSpreadOnce t.mesh t.plan
-built-once t built = once-on-one-rank built.bytes t.plan t.mesh built.said built.fits built.plan.parts built.plan.one
+built-once t built = go built.plan.single
+  where
+    go : (t.plan.ranks ≡ 1) ⊎ (length t.plan.moves ≡ 1) → IsSpreadOnce t.mesh t.plan
+    go (inl one) = once-on-one-rank built.bytes t.plan t.mesh built.said built.fits built.plan.parts one
+    go (inr one) = once-by-one-part built.bytes t.plan t.mesh built.said built.fits built.plan.parts one
 
 -- ---- what stands after the steps
 
