@@ -4,6 +4,9 @@
 //! Its rounds go by threads, and its exit status is that of the top call.
 #![tactic(auto)]
 
+#[cfg(test)]
+mod sharing;
+
 use plex_job::{Status, job};
 use sf_threads::{NoGate, ThreadFabric};
 use shelf_io::{FolderShelf, OutSink};
