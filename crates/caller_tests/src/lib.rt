@@ -1,0 +1,5 @@
+//! Tests of the call that counts cells at vertices.
+#![tactic(auto)]
+
+#[cfg(test)]
+mod counted;

@@ -1,0 +1,5 @@
+mod Cells
+mod Ranks
+mod Copies
+mod Contained
+mod Spread
