@@ -24,7 +24,7 @@ use std::alloc::Global;
 use std::thread::Threads;
 
 /// Why there is no distributed mesh.
-#[derive(Debug)]
+#[derive(Clone, Copy, Debug, PartialEq, Eq)]
 pub enum OrientFault {
     /// Some cell sees the face under this key under no orientation of the face. Of all such keys the least.
     Twist(PointKey),
