@@ -120,6 +120,9 @@ fn crossed_face_between_two_ranks(rt: HostRuntime) -> Result<(), Fail> {
     let [home] = fabric.kept() else {
         return Err(Fail::from("not one round is kept"));
     };
+    if home.ranks() != 2 {
+        return Err(Fail::from("the round is not of two ranks"));
+    }
     assert_eq!(rt; home.before(), [2, 15, 13].as_slice());
     assert_eq!(rt; home.after(), [2, 15, 13].as_slice());
     assert_eq!(rt; home.asks(0).len(), 0);
