@@ -1,12 +1,16 @@
 //! Tests of what ranks are given of a mesh, and of what they share: cells and vertices with owners, marks
-//! and rows; points as sets of vertices, and the forest of shared points.
+//! and rows; points as sets of vertices, and the forest of shared points. The meshes and the way to what
+//! ranks share of them serve tests of later steps too.
 #![tactic(auto)]
 
-#[cfg(test)]
 mod meshes;
 #[cfg(test)]
 mod seeds;
 #[cfg(test)]
 mod shares;
-#[cfg(test)]
 mod spreads;
+#[cfg(test)]
+mod squares;
+
+pub use meshes::{THREE_TRIANGLES, TWO_CUBES};
+pub use spreads::{shared_of, shared_over};

@@ -1,5 +1,6 @@
-use crate::meshes::{THREE_TRIANGLES, TWO_CUBES, squares};
+use crate::meshes::{THREE_TRIANGLES, TWO_CUBES};
 use crate::spreads::{shared_of, shared_over};
+use crate::squares::squares;
 use interp_share::Shared;
 use plex_base::Dim;
 use sf_fabric::Tag;

@@ -1,8 +1,7 @@
 //! Meshes over ranks, step by step.
 ghost use Rattle.std.specs.Prelude.{IfOk};
-ghost use Rattle.spread_tests.specs.Some.{IsSomeScatter};
+ghost use Rattle.spread_tests.specs.Some.{IsSomeScatter, IsSomeShared};
 
-use crate::meshes::THREE_TRIANGLES;
 use dist_seed::{Scatter, seed};
 use interp_share::{Shared, share};
 use mesh_check::{Mesh, accept};
@@ -33,7 +32,7 @@ fn plan_of(alloc: Global, text: &str) -> Result<Plan, Fail> {
 }
 
 /// What ranks are given of a mesh by a plan, where there is memory.
-fn scatter_over<F: Fabric>(
+pub(crate) fn scatter_over<F: Fabric>(
     alloc: Global,
     file: &str,
     plan: &str,
@@ -48,25 +47,16 @@ fn scatter_over<F: Fabric>(
     Ok(seed(alloc, &mesh, &plan, fabric))
 }
 
-/// What ranks are given of the three triangles by a plan, where a script makes these picks.
-pub(crate) fn scatter_of(alloc: Global, plan: &str, picks: &[u32]) -> Result<Scatter, Fail> {
-    let mut fabric = ScriptFabric::new(Vec::from_slice(alloc, picks)?);
-    let scatter = scatter_over(alloc, THREE_TRIANGLES, plan, &mut fabric)?;
-    let scatter = scatter.map_err(|_| Fail::from("no memory"))?;
-    if fabric.kept().len() != 0 {
-        return Err(Fail::from("a round is kept"));
-    }
-    Ok(scatter)
-}
-
 /// The points of ranks, and which of them are the same, where there is memory.
-pub(crate) fn shared_over<R: Threads + Sync, F: Fabric>(
+pub fn shared_over<R: Threads + Sync, F: Fabric>(
     rt: &R,
     alloc: Global,
     file: &str,
     plan: &str,
     fabric: &mut F,
-) -> Result<Result<Shared, NoMemory>, Fail> {
+) -> Result<Result<Shared, NoMemory>, Fail>
+    ensures { IfOk result (λ found. IfOk found (λ s. IsSomeShared s)) }
+{
     match scatter_over(alloc, file, plan, fabric)? {
         Ok(scatter) => Ok(share(rt, alloc, scatter, fabric)),
         Err(NoMemory) => Ok(Err(NoMemory)),
@@ -74,12 +64,14 @@ pub(crate) fn shared_over<R: Threads + Sync, F: Fabric>(
 }
 
 /// The same where a script makes no picks.
-pub(crate) fn shared_of<R: Threads + Sync>(
+pub fn shared_of<R: Threads + Sync>(
     rt: &R,
     alloc: Global,
     file: &str,
     plan: &str,
-) -> Result<Shared, Fail> {
+) -> Result<Shared, Fail>
+    ensures { IfOk result (λ s. IsSomeShared s) }
+{
     let mut fabric = ScriptFabric::new(Vec::new(alloc));
     let shared = shared_over(rt, alloc, file, plan, &mut fabric)?;
     shared.map_err(|_| Fail::from("no memory"))
