@@ -8,8 +8,8 @@ use Rattle.input_defs.specs.declared.MshFault.{MshFault}
 use Rattle.input_defs.specs.declared.MshFault.TheVariants as msh
 use Rattle.input_defs.specs.declared.MeshFault.{MeshFault}
 use Rattle.input_defs.specs.declared.MeshFault.TheVariants as mesh
-use Rattle.plex_serial.specs.declared.fault.SerialFault.{SerialFault}
-use Rattle.plex_serial.specs.declared.fault.SerialFault.TheVariants as serial
+use Rattle.orient_iface.specs.declared.orienting.OrientFault.{OrientFault}
+use Rattle.orient_iface.specs.declared.orienting.OrientFault.TheVariants as orient
 use Rattle.msh_count.specs.declared.trouble.Trouble.{Trouble}
 use Rattle.msh_count.specs.declared.trouble.Trouble.TheVariants.{Words, Mesh, Read, Write, Memory}
 
@@ -36,9 +36,9 @@ accept_trouble mesh.NoMemory = Memory
 accept_trouble other = Mesh
 
 -- a twisted face, or want of memory
-abbrev pub serial_trouble : SerialFault → Trouble
-serial_trouble serial.NoMemory = Memory
-serial_trouble (serial.Twist key) = Mesh
+abbrev pub orient_trouble : OrientFault → Trouble
+orient_trouble orient.NoMemory = Memory
+orient_trouble (orient.Twist key) = Mesh
 
 -- the line `rows N` of a data section
 abbrev pub rows_line : Section → List ℕ

@@ -12,20 +12,21 @@ ghost use Rattle.std.specs.Prelude.{◌≡◌, IfOk};
 ghost use Rattle.msh_count.specs.Statuses.{counts_text};
 
 mod counting;
+mod drawing;
 mod trouble;
 mod walking;
 
 use counting::{append_mesh, lines};
+use drawing::on_one_rank;
 use mesh_check::accept;
 use msh_reader::{MshText, read_msh};
 use plex_base::MAX_FILE_BYTES;
-use plex_serial::interpolate;
 use shelf_io::{FolderShelf, OutSink, Shelf, Sink};
-use std::alloc::Global;
 use std::env;
 use std::io::{self, ErrorKind};
 use std::process::ExitCode;
 use std::rt::{Env, Files};
+use std::thread::Threads;
 use trouble::Trouble;
 use walking::{append_diagram, append_supports};
 
@@ -85,8 +86,8 @@ fn read_file<R: Files + AllocGlobal>(rt: &R, name: &str) -> Result<MshText, Trou
 }
 
 /// Appends what is counted of the mesh, and of its diagram where that is asked for.
-fn append_depth(
-    alloc: Global,
+fn append_depth<R: AllocGlobal + Threads + Sync>(
+    rt: &R,
     text: MshText,
     depth: Depth,
     lines: &mut Vec<u8>,
@@ -94,24 +95,28 @@ fn append_depth(
     if let Depth::Content = depth {
         return Ok(());
     }
+    let alloc = rt.alloc();
     let mesh = accept(alloc, text)?;
     append_mesh(alloc, &mesh, lines)?;
     if let Depth::Mesh = depth {
         return Ok(());
     }
-    let drawn = interpolate(alloc, &mesh)?;
-    append_diagram(alloc, &drawn.plex, lines)?;
+    let dist = on_one_rank(rt, alloc, &mesh)?;
+    // There is a rank: the proof takes this from the call.
+    let _ranks = dist.ranks();
+    let plex = dist.local(0).plex();
+    append_diagram(alloc, plex, lines)?;
     if let Depth::Supports = depth {
-        append_supports(alloc, &drawn.plex, lines)?;
+        append_supports(alloc, plex, lines)?;
     }
     Ok(())
 }
 
-fn run<R: Env + Files + Print + AllocGlobal>(rt: &R) -> Result<(), Trouble> {
+fn run<R: Env + Files + Print + AllocGlobal + Threads + Sync>(rt: &R) -> Result<(), Trouble> {
     let Request { name, depth } = asked_for(rt)?;
     let text = read_file(rt, name.as_str())?;
     let mut lines = lines(rt.alloc(), &text)?;
-    append_depth(rt.alloc(), text, depth, &mut lines)?;
+    append_depth(rt, text, depth, &mut lines)?;
     let mut out = OutSink::new(rt);
     out.write(&lines)?;
     out.flush()?;

@@ -2,12 +2,12 @@
 
 ghost use Rattle.std.specs.Prelude.{◌≡◌};
 ghost use Rattle.msh_count.specs.declared.trouble.Trouble.TheVariants.{Write, Memory};
-ghost use Rattle.msh_count.specs.Statuses.{status_of, trouble_of, mesh_trouble, accept_trouble, serial_trouble};
+ghost use Rattle.msh_count.specs.Statuses.{status_of, trouble_of, mesh_trouble, accept_trouble, orient_trouble};
 
 use mesh_check::MeshFault;
 use msh_reader::MshFault;
+use orient_iface::OrientFault;
 use plex_base::NoMemory;
-use plex_serial::SerialFault;
 use shelf_io::{Failed, ShelfFault};
 use std::alloc::{AllocError, AllocFailed};
 
@@ -82,13 +82,13 @@ impl From<MeshFault> for Trouble {
     }
 }
 
-impl From<SerialFault> for Trouble {
-    ghost from_gives = { λ fault trouble. trouble ≡ serial_trouble fault };
+impl From<OrientFault> for Trouble {
+    ghost from_gives = { λ fault trouble. trouble ≡ orient_trouble fault };
 
-    fn from(fault: SerialFault) -> Trouble {
+    fn from(fault: OrientFault) -> Trouble {
         match fault {
-            SerialFault::NoMemory => Trouble::Memory,
-            SerialFault::Twist(_) => Trouble::Mesh,
+            OrientFault::NoMemory => Trouble::Memory,
+            OrientFault::Twist(_) => Trouble::Mesh,
         }
     }
 }

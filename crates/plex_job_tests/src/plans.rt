@@ -114,3 +114,34 @@ fn made_meshes_and_words(rt: HostRuntime) -> Result<(), Fail> {
     }
     Ok(())
 }
+
+// Two cells along each side. Sums are those of `bench/plain.cpp` on the same grids as files.
+#[test]
+fn made_grids_of_each_kind(rt: HostRuntime) -> Result<(), Fail> {
+    let runs = [
+        (
+            "tri:2",
+            "mesh dim 2 cells 8 vertices 9 unused 0 loose 0 merged 0\nranks 1\nstep 0 part\nsum held 33 owned 33 entries 56 back 8 at 18 data 0 dofs 0\nend\n",
+        ),
+        (
+            "quad:2",
+            "mesh dim 2 cells 4 vertices 9 unused 0 loose 0 merged 0\nranks 1\nstep 0 part\nsum held 25 owned 25 entries 40 back 4 at 18 data 0 dofs 0\nend\n",
+        ),
+        (
+            "tet:2",
+            "mesh dim 3 cells 48 vertices 27 unused 0 loose 0 merged 0\nranks 1\nstep 0 part\nsum held 293 owned 293 entries 748 back 204 at 81 data 0 dofs 0\nend\n",
+        ),
+        (
+            "hex:2",
+            "mesh dim 3 cells 8 vertices 27 unused 0 loose 0 merged 0\nranks 1\nstep 0 part\nsum held 125 owned 125 entries 300 back 80 at 81 data 0 dofs 0\nend\n",
+        ),
+    ];
+    for (made, text) in runs {
+        let line = ["--make", made, "--summary"];
+        for (status, out) in run_both(&rt, rt.alloc(), &line, &[])? {
+            assert_eq!(rt; status, Status::Done, "{made}");
+            assert_eq!(rt; out.bytes(), text.as_bytes());
+        }
+    }
+    Ok(())
+}

@@ -1,10 +1,13 @@
 //! What is counted.
+ghost use Rattle.std.specs.Prelude.{IfOk};
+ghost use Rattle.share_count.specs.Met.{IsOfMesh};
+
 use crate::trouble::Trouble;
 use dist_seed::seed;
 use interp_share::{Shared, share};
+use orient_iface::orient;
 use plan_reader::{Plan, read_plan};
 use plex_mesh::Mesh;
-use plex_serial::interpolate;
 use sf_fabric::Fabric;
 use std::alloc::Global;
 use std::thread::Threads;
@@ -12,12 +15,6 @@ use std::thread::Threads;
 /// The line `cells N` of a mesh.
 pub(crate) fn made_text(alloc: Global, mesh: &Mesh) -> Result<String, Trouble> {
     Ok(format!(in alloc; "cells {}\n", mesh.cells())?)
-}
-
-/// The line `points N` of the serial diagram of a mesh.
-pub(crate) fn drawn_text(alloc: Global, mesh: &Mesh) -> Result<String, Trouble> {
-    let drawn = interpolate(alloc, mesh)?;
-    Ok(format!(in alloc; "points {}\n", drawn.plex.chart())?)
 }
 
 /// The plan that gives the cells to so many ranks in blocks.
@@ -29,6 +26,22 @@ fn plan_of(alloc: Global, ranks: u32) -> Result<Plan, Trouble> {
     read_plan(alloc, text.as_bytes()).map_err(|_| Trouble::Words)
 }
 
+/// What so many ranks have of a mesh once they have met.
+fn met<R: Threads + Sync, F: Fabric>(
+    rt: &R,
+    alloc: Global,
+    mesh: &Mesh,
+    ranks: u32,
+    fabric: &mut F,
+) -> Result<Shared, Trouble>
+    ensures { IfOk result (λ s. IsOfMesh s mesh.now) }
+{
+    let plan = plan_of(alloc, ranks)?;
+    plan.fits(mesh.cells()).map_err(|_| Trouble::Words)?;
+    let scatter = seed(alloc, mesh, &plan, fabric)?;
+    Ok(share(rt, alloc, scatter, fabric)?)
+}
+
 /// The line `points N leaves N` of a mesh over so many ranks.
 pub(crate) fn shared_text<R: Threads + Sync, F: Fabric>(
     rt: &R,
@@ -37,11 +50,22 @@ pub(crate) fn shared_text<R: Threads + Sync, F: Fabric>(
     ranks: u32,
     fabric: &mut F,
 ) -> Result<String, Trouble> {
-    let plan = plan_of(alloc, ranks)?;
-    plan.fits(mesh.cells()).map_err(|_| Trouble::Words)?;
-    let scatter = seed(alloc, mesh, &plan, fabric)?;
-    let shared = share(rt, alloc, scatter, fabric)?;
-    Ok(counts_text(alloc, &shared)?)
+    let shared = met(rt, alloc, mesh, ranks, fabric)?;
+    counts_text(alloc, &shared)
+}
+
+/// The line `points N` of the diagram of a mesh, whose whole distribution is made on one rank.
+pub(crate) fn drawn_text<R: Threads + Sync, F: Fabric>(
+    rt: &R,
+    alloc: Global,
+    mesh: &Mesh,
+    fabric: &mut F,
+) -> Result<String, Trouble> {
+    let shared = met(rt, alloc, mesh, 1, fabric)?;
+    let (dist, _) = orient(rt, alloc, shared, fabric)?;
+    // There is a rank: the proof takes this from the call.
+    let _ranks = dist.ranks();
+    Ok(format!(in alloc; "points {}\n", dist.local(0).plex().chart())?)
 }
 
 /// How many points and leaves all ranks have.

@@ -1,9 +1,9 @@
 //! `share_count KIND N RANKS` makes the mesh of that kind and size, gives its cells to so many ranks in
 //! blocks, and prints how many points the ranks have and how many leaves the forest of shared points has.
-//! `share_count KIND N drawn` makes the serial diagram of the mesh in its place, and prints how many points
-//! it has; `share_count KIND N made` makes the mesh alone, and prints how many cells it has.
+//! `share_count KIND N drawn` makes the whole distribution of the mesh on one rank, and prints how many points
+//! its diagram has; `share_count KIND N made` makes the mesh alone, and prints how many cells it has.
 //!
-//! It makes the speed and the memory of seeding and sharing visible. Its exit status is that of
+//! It makes the speed and the memory of seeding, sharing and orienting visible. Its exit status is that of
 //! [`Trouble`], or 0.
 #![tactic(auto)]
 
@@ -39,13 +39,11 @@ fn run<R: Env + Print + AllocGlobal + Threads + Sync>(rt: &R) -> Result<(), Trou
         .collect(alloc)?;
     let (kind, n, wanted) = read_wanted(&words)?;
     let mesh = make(alloc, kind, n)?;
+    let mut fabric = ThreadFabric::new(rt, alloc, NoGate);
     let text = match wanted {
         Wanted::Made => made_text(alloc, &mesh)?,
-        Wanted::Drawn => drawn_text(alloc, &mesh)?,
-        Wanted::Shared(ranks) => {
-            let mut fabric = ThreadFabric::new(rt, alloc, NoGate);
-            shared_text(rt, alloc, &mesh, ranks, &mut fabric)?
-        }
+        Wanted::Drawn => drawn_text(rt, alloc, &mesh, &mut fabric)?,
+        Wanted::Shared(ranks) => shared_text(rt, alloc, &mesh, ranks, &mut fabric)?,
     };
     let mut out = OutSink::new(rt);
     out.write(text.as_bytes())?;

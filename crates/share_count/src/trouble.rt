@@ -1,6 +1,6 @@
 //! Why nothing was counted.
+use orient_iface::OrientFault;
 use plex_base::NoMemory;
-use plex_serial::SerialFault;
 use shelf_io::Failed;
 use std::alloc::{AllocError, AllocFailed};
 
@@ -38,9 +38,12 @@ impl From<NoMemory> for Trouble {
     }
 }
 
-impl From<SerialFault> for Trouble {
-    fn from(_: SerialFault) -> Trouble {
-        Trouble::Memory
+// No face of a grid is twisted, so memory was wanting.
+impl From<OrientFault> for Trouble {
+    fn from(fault: OrientFault) -> Trouble {
+        match fault {
+            OrientFault::Twist(_) | OrientFault::NoMemory => Trouble::Memory,
+        }
     }
 }
 

@@ -11,7 +11,7 @@ use scan::read_uint;
 pub(crate) enum Wanted {
     /// Its cells.
     Made,
-    /// The points of its serial diagram.
+    /// The points of its diagram, which one rank has.
     Drawn,
     /// The points of so many ranks.
     Shared(u32),

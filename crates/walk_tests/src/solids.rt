@@ -1,18 +1,36 @@
+ghost use Rattle.std.specs.Prelude.{◌≤◌, length, IfOk, IfSome};
+
 use crate::calls::{has_closure, has_star, has_support};
+use dist_seed::seed;
+use dist_state::Dist;
+use interp_share::share;
 use mesh_make::{Kind, make};
+use orient_iface::{OrientFault, orient};
+use plan_reader::Plan;
 use plex_base::NoMemory;
-use plex_chart::Plex;
-use plex_serial::{SerialFault, interpolate};
+use sf_script::ScriptFabric;
 use std::alloc::Global;
 use std::test::Fail;
+use std::thread::Threads;
 
-/// The diagram of the generated mesh of one cube.
-fn cube(alloc: Global, kind: Kind) -> Result<Option<Plex>, NoMemory> {
+/// The generated mesh of one cube on one rank, which has its diagram, and `None` where it has a twist.
+#[tactic(auto, unfolding(input_defs::specs::Plans::misfit, input_defs::specs::Plans::misfits))]
+fn cube<R: Threads + Sync>(rt: &R, alloc: Global, kind: Kind) -> Result<Option<Dist>, NoMemory>
+    ensures { IfOk result (λ cube. IfSome cube (λ dist. 1 ≤ length dist.locals)) }
+{
     let mesh = make(alloc, kind, 1)?;
-    match interpolate(alloc, &mesh) {
-        Ok(serial) => Ok(Some(serial.plex)),
-        Err(SerialFault::NoMemory) => Err(NoMemory),
-        Err(_) => Ok(None),
+    let plan = Plan::plain(alloc)?;
+    let mut fabric = ScriptFabric::new(Vec::new(alloc));
+    let scatter = seed(alloc, &mesh, &plan, &mut fabric)?;
+    let shared = share(rt, alloc, scatter, &mut fabric)?;
+    match orient(rt, alloc, shared, &mut fabric) {
+        Ok((dist, _)) => {
+            // There is a rank: the proof takes this from the call.
+            let _ranks = dist.ranks();
+            Ok(Some(dist))
+        }
+        Err(OrientFault::NoMemory) => Err(NoMemory),
+        Err(OrientFault::Twist(_)) => Ok(None),
     }
 }
 
@@ -20,14 +38,15 @@ fn cube(alloc: Global, kind: Kind) -> Result<Option<Plex>, NoMemory> {
 #[test]
 fn closures_of_a_hexahedron(rt: HostRuntime) -> Result<(), Fail> {
     let alloc = rt.alloc();
-    let Some(x) = cube(alloc, Kind::Hex)? else {
+    let Some(dist) = cube(&rt, alloc, Kind::Hex)? else {
         assert!(rt; false);
         return Ok(());
     };
+    let x = dist.local(0).plex();
     assert!(rt;
         has_closure(
             alloc,
-            &x,
+            x,
             0,
             0,
             &[
@@ -64,7 +83,7 @@ fn closures_of_a_hexahedron(rt: HostRuntime) -> Result<(), Fail> {
     assert!(rt;
         has_closure(
             alloc,
-            &x,
+            x,
             0,
             1,
             &[
@@ -101,7 +120,7 @@ fn closures_of_a_hexahedron(rt: HostRuntime) -> Result<(), Fail> {
     assert!(rt;
         has_closure(
             alloc,
-            &x,
+            x,
             0,
             -2,
             &[
@@ -138,7 +157,7 @@ fn closures_of_a_hexahedron(rt: HostRuntime) -> Result<(), Fail> {
     assert!(rt;
         has_closure(
             alloc,
-            &x,
+            x,
             0,
             -24,
             &[
@@ -175,7 +194,7 @@ fn closures_of_a_hexahedron(rt: HostRuntime) -> Result<(), Fail> {
     assert!(rt;
         has_closure(
             alloc,
-            &x,
+            x,
             10,
             -2,
             &[
@@ -198,14 +217,15 @@ fn closures_of_a_hexahedron(rt: HostRuntime) -> Result<(), Fail> {
 #[test]
 fn walks_over_tetrahedra(rt: HostRuntime) -> Result<(), Fail> {
     let alloc = rt.alloc();
-    let Some(x) = cube(alloc, Kind::Tet)? else {
+    let Some(dist) = cube(&rt, alloc, Kind::Tet)? else {
         assert!(rt; false);
         return Ok(());
     };
+    let x = dist.local(0).plex();
     assert!(rt;
         has_closure(
             alloc,
-            &x,
+            x,
             0,
             0,
             &[
@@ -230,7 +250,7 @@ fn walks_over_tetrahedra(rt: HostRuntime) -> Result<(), Fail> {
     assert!(rt;
         has_closure(
             alloc,
-            &x,
+            x,
             1,
             5,
             &[
@@ -255,7 +275,7 @@ fn walks_over_tetrahedra(rt: HostRuntime) -> Result<(), Fail> {
     assert!(rt;
         has_closure(
             alloc,
-            &x,
+            x,
             3,
             -1,
             &[
@@ -280,7 +300,7 @@ fn walks_over_tetrahedra(rt: HostRuntime) -> Result<(), Fail> {
     assert!(rt;
         has_closure(
             alloc,
-            &x,
+            x,
             5,
             -12,
             &[
@@ -302,9 +322,9 @@ fn walks_over_tetrahedra(rt: HostRuntime) -> Result<(), Fail> {
             ]
         )?
     );
-    assert!(rt; has_support(alloc, &x, 15, &[0, 1])?);
-    assert!(rt; has_support(alloc, &x, 36, &[15, 16, 19])?);
-    assert!(rt; has_star(alloc, &x, 14, &[0, 14])?);
-    assert!(rt; has_star(alloc, &x, 7, &[0, 1, 7, 14, 15, 16, 18, 19, 32, 33, 36, 38])?);
+    assert!(rt; has_support(alloc, x, 15, &[0, 1])?);
+    assert!(rt; has_support(alloc, x, 36, &[15, 16, 19])?);
+    assert!(rt; has_star(alloc, x, 14, &[0, 14])?);
+    assert!(rt; has_star(alloc, x, 7, &[0, 1, 7, 14, 15, 16, 18, 19, 32, 33, 36, 38])?);
     Ok(())
 }

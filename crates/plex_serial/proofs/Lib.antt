@@ -1,9 +1,0 @@
-pub mod Rows
-pub mod Faces
-pub mod Polygons
-pub mod Loops
-pub mod Stratum
-pub mod Counting
-pub mod Whole
-pub mod Assembling
-pub mod Keyed

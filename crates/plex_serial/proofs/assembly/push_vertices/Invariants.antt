@@ -1,7 +1,0 @@
-use Rattle.std.proofs.Common.{◌≡◌, ◌++◌, map}
-use Rattle.plain_lists.specs.Lists.{below}
-use Rattle.diagram_laws.specs.Strata.{bare_cover}
-use Rattle.plex_serial.proofs.assembly.push_vertices.Given as goal
-
-abbrev pub invariant-loop-vertex : goal.invariant-loop-vertex
-invariant-loop-vertex l = l.plex ≡ record l.initial.plex { points = l.initial.plex.points ++ map (λ v. bare_cover) (below l._vertex) }

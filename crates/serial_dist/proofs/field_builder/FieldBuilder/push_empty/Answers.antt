@@ -1,8 +1,0 @@
-use Rattle.std.proofs.Common.{[], ◌∷◌, ◌++◌, ap, ◌∙◌, append_assoc}
-use Rattle.std.proofs.lemmas.List.{replicate_more}
-use Rattle.serial_dist.specs.Rows.{no_words}
-use Rattle.serial_dist.proofs.field_builder.FieldBuilder.push_empty.Goals as goal
-
-pub loop-point-preserved : goal.loop-point-preserved
-loop-point-preserved c =
-    c.in_ok-push.ensures ∙ ap (λ l. l ++ [] ∷ []) c.loop-point.invariant ∙ append_assoc c.args.self.now (no_words c.loop-point._point) ([] ∷ []) ∙ ap (λ l. c.args.self.now ++ l) (replicate_more c.loop-point._point [])

@@ -1,8 +1,0 @@
-use Rattle.std.proofs.Common.{◌≡◌, ◌++◌, take}
-use Rattle.local_points.specs.Points.{row_at}
-use Rattle.serial_dist.specs.Weights.{places_from}
-use Rattle.serial_dist.proofs.places.push_faces.Given as goal
-
--- the faces up to here
-abbrev pub invariant-loop-f : goal.invariant-loop-f
-invariant-loop-f l = l.places.items ≡ l.initial.places.items ++ places_from l.base (take l.f (row_at l.points.face_places l.c))
