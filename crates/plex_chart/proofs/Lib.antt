@@ -1,4 +1,5 @@
 pub mod Chart
 pub mod Facets
+pub mod Flat
 pub mod Orientations
 pub mod Places

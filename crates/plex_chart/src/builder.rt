@@ -67,7 +67,8 @@ impl PlexBuilder {
     /// facet in the order of the tables: `DMPlexSetCone` and `DMPlexSetConeOrientation`. The entries
     /// may name points that are yet to come, each in the stratum of the facets.
     ///
-    /// Returns the number of the point. Fails only for want of memory, and then has pushed nothing.
+    /// Returns the number of the point. Fails only for want of memory, or where all cones together
+    /// would have 2^32 entries, and then has pushed nothing. The first point takes room for all.
     pub fn push(&mut self, poly: Poly, cone: &[ConeEntry]) -> Result<u32, NoMemory>
         requires place { IsInStratum self.old (dim_of poly) (length self.old.points) }
         requires arity { length cone.now ≡ length (facets_of poly) }
@@ -77,9 +78,23 @@ impl PlexBuilder {
         ensures ok { OnOk result (self.new ≡ record self.old { points = self.old.points ++ record { poly = poly; covers = cone.now } ∷ [] }) }
         ensures err { OnErr result (self.new ≡ self.old) }
     {
+        self.reserve_at_first(poly)?;
         let p = self.cones.len() as u32;
         self.cones.push(poly, cone)?;
         Ok(p)
+    }
+
+    /// Takes room for all points and their cones when the first point comes, so that growing leaves
+    /// nothing over where all cells are like the first.
+    fn reserve_at_first(&mut self, first: Poly) -> Result<(), NoMemory>
+        ensures { self.new ≡ self.old }
+    {
+        if self.cones.len() == 0 {
+            let points = self.strata.points();
+            let entries = self.strata.entries_if_alike(first);
+            self.cones.reserve(points, entries)?;
+        }
+        Ok(())
     }
 
     /// The diagram, once all its points are there and each entry of a cone has the polytope and an

@@ -1,7 +1,8 @@
 ghost use Rattle.std.specs.Prelude.{◌≡◌, []};
 ghost use Rattle.plex_base.specs.Dim.{dim_number};
-ghost use Rattle.plex_chart.specs.Chart.{HasStrata, stratum_range};
+ghost use Rattle.plex_chart.specs.Chart.{HasStrata, chart_size, stratum_range};
 
+use mesh_defs::Poly;
 use plex_base::Dim;
 use std::ops::Range;
 
@@ -16,7 +17,31 @@ pub(crate) struct Strata {
 }
 
 impl Strata {
-    ghost use Rattle.plex_chart.specs.Strata.{diagram_of};
+    ghost use Rattle.plex_chart.specs.Strata.{diagram_of, entries_if_alike};
+
+    /// How many points all strata have room for.
+    pub(crate) fn points(&self) -> usize
+        ensures { result ≡ chart_size (diagram_of self.now []) }
+    {
+        self.cells as usize + self.vertices as usize + self.faces as usize + self.edges as usize
+    }
+
+    /// How many entries all cones have together, if every cell is of this polytope.
+    pub(crate) fn entries_if_alike(&self, cell: Poly) -> usize
+        ensures { result ≡ entries_if_alike self.now cell }
+    {
+        let cells = self.cells as usize;
+        let faces = self.faces as usize;
+        let edges = self.edges as usize;
+        match cell {
+            Poly::Vertex => 2 * edges,
+            Poly::Segment => 2 * cells + 2 * edges,
+            Poly::Triangle => 3 * cells + 2 * faces + 2 * edges,
+            Poly::Quad => 4 * cells + 2 * faces + 2 * edges,
+            Poly::Tet => 4 * cells + 3 * faces + 2 * edges,
+            Poly::Hex => 6 * cells + 4 * faces + 2 * edges,
+        }
+    }
 
     /// The points of a dimension.
     pub(crate) fn range(&self, d: Dim) -> Range<u32>
