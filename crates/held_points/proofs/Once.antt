@@ -69,7 +69,7 @@ module _ (m : Mesh) (cells : List (ℕ × Cell)) (d : ℕ) (ne : d ≢ 0) (are :
   chart-first = all_filter (IsFirst m) (λ s. in_some (point_of s) cells) (stratum m d) (stratum-first m d ne)
 
   -- and differ
-  chart-differs : points_differ (chart_stratum m cells d) ≡ true
+  pub chart-differs : points_differ (chart_stratum m cells d) ≡ true
   chart-differs = go (chart_stratum m cells d) chart-first (chart-rising m cells d ne)
     where
       go : (ss : List Sight) → AllByRecursion (IsFirst m) ss → IsRising (keys_of ss) → points_differ ss ≡ true

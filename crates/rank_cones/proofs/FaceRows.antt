@@ -18,7 +18,7 @@ use Rattle.mesh_defs.specs.Points.{Sight, point_on, shows}
 use Rattle.mesh_defs.specs.Diagram.{place_in}
 use Rattle.mesh_defs.proofs.RightMeshes.{are_corners}
 use Rattle.rank_laws.proofs.Shapes.{is_face_of, facets-are_faces}
-use Rattle.rank_laws.proofs.Found.{length-sorted}
+use Rattle.rank_laws.proofs.Found.{poly-told, length-sorted}
 use Rattle.diagram_laws.specs.Strata.{turn_among}
 use Rattle.rank_diagram_laws.specs.Parts.{IsFacePart}
 use Rattle.rank_cones.specs.Placed.{IsOn}
@@ -72,6 +72,12 @@ module _ (faces : List Sight) (all : AllByRecursion IsFacePart faces) (cell : Ce
     own-long =
         let both = and_parts (dim_of (facet_at cell.poly f).poly == dim_of own.poly) (same_list (sorted (picked cell.vertices (facet_at cell.poly f).corners)) (sorted own.arrangement)) (find-passes (shows (point_on (facet_at cell.poly f).poly (picked cell.vertices (facet_at cell.poly f).corners))) faces own own-found) in
         sym (length-sorted own.arrangement) ∙ ap length (sym (same_text (sorted (picked cell.vertices (facet_at cell.poly f).corners)) (sorted own.arrangement) (sym both.1))) ∙ length-sorted (picked cell.vertices (facet_at cell.poly f).corners) ∙ facet-long
+
+    -- so it is of the same polytope
+    pub own-poly : own.poly ≡ (facet_at cell.poly f).poly
+    own-poly =
+        let both = and_parts (dim_of (facet_at cell.poly f).poly == dim_of own.poly) (same_list (sorted (picked cell.vertices (facet_at cell.poly f).corners)) (sorted own.arrangement)) (find-passes (shows (point_on (facet_at cell.poly f).poly (picked cell.vertices (facet_at cell.poly f).corners))) faces own own-found) in
+        poly-told own.poly (facet_at cell.poly f).poly (sym (eqb-true (dim_of (facet_at cell.poly f).poly) (dim_of own.poly) both.0)) (sym own-part.list.long ∙ own-long)
 
     pub own-differ : AllPairs (λ x y. x ≢ y) own.arrangement
     own-differ i j d low' high same = own-part.list.different i j low' high (get_or_default own.arrangement i 0 d (omega arith) ∙ same ∙ get_or_default own.arrangement j d 0 high)

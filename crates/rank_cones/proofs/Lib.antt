@@ -2,6 +2,8 @@ pub mod Loops
 pub mod Rows
 pub mod FaceRows
 pub mod Polygons
+pub mod FaceSides
+pub mod Seeing
 pub mod Strata
 pub mod Wholes
 pub mod Assembling

@@ -1,33 +1,52 @@
 -- What a rank of a mesh has is whole: its parts fit together, and its own points go to their places by key.
-use Rattle.std.proofs.Common.{◌≡◌, ℕ, ◌≤◌, ◌^◌, true, List, refl, sym, ap, ◌∙◌, subst, ⊎_elim, None, Some, arith}
+use Rattle.std.proofs.Common.{◌≡◌, ◌≢◌, ℕ, ◌^◌, true, List, get_or, refl, sym, ap, ◌∙◌, subst, ⊎_elim, None, Some, arith}
 use Rattle.std.specs.List.{list_any}
-use Rattle.plain_lists.proofs.Each.{all_weaker}
+use Rattle.plain_lists.proofs.Each.{all_at, all_weaker}
 use Rattle.mesh_defs.specs.Tables.{dim_of}
 use Rattle.mesh_defs.specs.Mesh.{Mesh, Cell}
-use Rattle.mesh_defs.specs.Points.{Point, shows}
+use Rattle.mesh_defs.specs.Points.{Point, Sight, point_of, shows, vertex_sight}
 use Rattle.mesh_defs.specs.Diagram.{Diagram, diagram}
 use Rattle.mesh_defs.specs.Sights.{IsEdgeSight}
 use Rattle.mesh_defs.specs.RightMesh.{IsSoundCell, IsRightMesh}
+use Rattle.mesh_laws.proofs.Firsts.{list_any-firsts, shown_itself}
 use Rattle.share_laws.proofs.Own.{sound-cells}
 use Rattle.rank_defs.specs.Ranks.{assigned}
+use Rattle.reach_laws.proofs.Charts.{own-place}
 use Rattle.orient_laws.specs.Named.{chart_stratum, own_twist}
 use Rattle.orient_laws.proofs.Seen.{same_points}
 use Rattle.orient_laws.proofs.Tops.{assigned-cells}
 use Rattle.diagram_laws.specs.Strata.{face_sights, first_twist}
-use Rattle.local_points.specs.Points.{Local, edges_among, local_points}
-use Rattle.local_points.proofs.Strata.{edges-stratum}
+use Rattle.local_points.specs.Cells.{faces_seen}
+use Rattle.local_points.specs.Points.{Local, local_points}
+use Rattle.local_points.proofs.Strata.{faces-stratum}
 use Rattle.held_points.specs.Held.{Held, held_of}
-use Rattle.rank_diagram_laws.specs.Parts.{Parts, parts_of, parts_diagram, IsEdgePart}
+use Rattle.held_points.proofs.Once.{chart-differs}
+use Rattle.rank_diagram_laws.specs.Parts.{Parts, held_faces, parts_of, parts_diagram, IsEdgePart}
+use Rattle.rank_diagram_laws.proofs.Charted.{solid-faces, flat-faces}
 use Rattle.rank_diagram_laws.proofs.Fitting.{parts-fit, own-twist-by, rank-diagram}
+use Rattle.rank_cones.specs.Seen.{AreSeen}
 use Rattle.rank_cones.specs.Assembly.{rank_parts, AreWhole}
 use Rattle.rank_cones.specs.Ranks.{IsRank}
+use Rattle.rank_cones.proofs.Seeing.{seen-by}
 
--- the edges that a rank holds are edges that its cells see
-own-edges : (m : Mesh) → IsRightMesh m → (a : List ℕ) (r : ℕ) (q : Point) → list_any (shows q) (chart_stratum m (assigned m a r) 1) ≡ true → list_any (shows q) (edges_among (assigned m a r)) ≡ true
-own-edges m right a r q h =
-    ap (list_any (shows q)) (edges-stratum (assigned m a r) (all_weaker (λ (c : ℕ × Cell). IsSoundCell m c.1) (λ (c : ℕ × Cell). 2 ≤ dim_of c.1.poly)
-    (λ c s. ⊎_elim (λ (flat : m.dim ≡ 2). omega (arith, s.dim)) (λ (solid : m.dim ≡ 3). omega (arith, s.dim)) right.sound.dim) (assigned m a r) (sound-cells m right.sound (assigned m a r) (assigned-cells m a r))))
-    ∙ same_points m (assigned m a r) 1 (λ e. absurd (omega arith)) (assigned-cells m a r) q ∙ h
+-- some cell of a rank has each face that the rank holds in a solid mesh
+solid-seen : (m : Mesh) → IsRightMesh m → m.dim ≡ 3 → (a : List ℕ) (r : ℕ) → AreSeen (assigned m a r) (chart_stratum m (assigned m a r) 2)
+solid-seen m right solid a r k low =
+    let cells : List (ℕ × Cell) = assigned m a r in
+    let faces : List Sight = chart_stratum m cells 2 in
+    let ne : ◌≢◌ {A = ℕ} 2 0 = λ e. absurd (omega arith) in
+    let solids = all_weaker (λ (c : ℕ × Cell). IsSoundCell m c.1) (λ (c : ℕ × Cell). dim_of c.1.poly ≡ 3) (λ c s. s.dim ∙ solid) cells (sound-cells m right.sound cells (assigned-cells m a r)) in
+    let q : Point = point_of (get_or faces k (vertex_sight 0)) in
+    let shown : list_any (shows q) faces ≡ true = all_at (λ s. list_any (shows (point_of s)) faces ≡ true) faces k (vertex_sight 0) (shown_itself faces) low in
+    let seen : list_any (shows q) (faces_seen cells) ≡ true = sym (list_any-firsts q (faces_seen cells)) ∙ ap (list_any (shows q)) (faces-stratum cells solids) ∙ same_points m cells 2 ne (assigned-cells m a r) q ∙ shown in
+    seen-by cells faces k q solids (sym (own-place faces (chart-differs m cells 2 ne (assigned-cells m a r)) k (vertex_sight 0) low)) seen
+
+-- in a flat mesh it holds none
+faces-seen : (m : Mesh) → IsRightMesh m → (a : List ℕ) (r : ℕ) → AreSeen (assigned m a r) (held_faces m (assigned m a r))
+faces-seen m right a r = ⊎_elim
+    (λ (flat : m.dim ≡ 2). subst (AreSeen (assigned m a r)) (sym (flat-faces m (assigned m a r) flat)) (λ k low. absurd (omega (arith, low))))
+    (λ (solid : m.dim ≡ 3). subst (AreSeen (assigned m a r)) (sym (solid-faces m (assigned m a r) solid)) (solid-seen m right solid a r))
+    right.sound.dim
 
 -- what is at hand, in the words of the mesh
 placed-parts : (m : Mesh) → IsRightMesh m → (a : List ℕ) (r : ℕ) → AreWhole (parts_of m (assigned m a r)) (local_points (assigned m a r)) (held_of m (assigned m a r))
@@ -41,8 +60,8 @@ placed-parts m right a r =
         edge_moves = refl;
         faces = fit.faces;
         edges = all_weaker (IsEdgePart (parts_of m (assigned m a r))) (IsEdgeSight (2 ^ 32)) (λ s e. e.edge) (chart_stratum m (assigned m a r) 1) fit.edges;
-        own = own-edges m right a r;
       };
+      seen = faces-seen m right a r;
     }
 
 module _ (m : Mesh) (n : ℕ) (a : List ℕ) (r : ℕ) (dim : ℕ) (cells : List (ℕ × Cell)) (vertices : List ℕ) (local : Local) (held : Held) (is : IsRank m n a r dim cells vertices local held) where

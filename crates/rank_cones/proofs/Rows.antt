@@ -1,12 +1,12 @@
 -- Where the cells of a rank have their own faces and edges, and where these stand by key.
-use Rattle.std.proofs.Common.{◌≡◌, ℕ, ◌+◌, ◌<◌, Bool, true, ◌==◌, nat_lt, List, [], map, length, get_or, Some, None, sym, ap, ◌∙◌, subst, ⊎_elim, arith}
+use Rattle.std.proofs.Common.{◌≡◌, ℕ, ◌+◌, ◌<◌, true, ◌==◌, List, [], map, length, get_or, Some, sym, ap, ◌∙◌, subst, ⊎_elim, arith}
 use Rattle.std.specs.Prelude.{slice_index, find}
-use Rattle.std.specs.List.{list_any, position, position_or_len, AllByRecursion, enumerate_from}
-use Rattle.std.proofs.lemmas.Bool.{eq-eqb, cond-true, both_ways, lt-ltb}
+use Rattle.std.specs.List.{list_any, AllByRecursion, enumerate_from}
+use Rattle.std.proofs.lemmas.Bool.{eq-eqb, cond-true, both_ways}
 use Rattle.std.proofs.lemmas.List.{length-map, get_or-map}
 use Rattle.std.proofs.lemmas.List.FromFn.{length-enumerate_from, get_or-enumerate_from}
 use Rattle.plain_lists.proofs.Each.{all_at, all_in_flat_map}
-use Rattle.plain_lists.proofs.Finding.{position-within, find-cases, find-passes}
+use Rattle.plain_lists.proofs.Finding.{position-within, find-cases, find-passes, among}
 use Rattle.mesh_defs.specs.declared.Poly.TheVariants.{Vertex}
 use Rattle.mesh_defs.specs.Tables.{Facet, dim_of, facets_of, edges_of, facet_at, edge_at}
 use Rattle.mesh_defs.specs.Mesh.{Cell}
@@ -46,6 +46,12 @@ module _ (n : ℕ) (cell : Cell) where
         ap (λ l. get_or l f (vertex_sight 0)) cell_faces-are
         ∙ get_or-map (cell_face n cell) (enumerate_from 0 (facets_of cell.poly)) f none (vertex_sight 0) (omega (arith, length-enumerate_from 0 (facets_of cell.poly)))
         ∙ ap (cell_face n cell) (get_or-enumerate_from 0 (facets_of cell.poly) f none h ∙ (λ i. (place i, facet_at cell.poly f)))
+
+-- where edge e of cell i stands among the own edges
+pub own-edge_place : (cells : List (ℕ × Cell)) (i e : ℕ) → i < length cells → e < length (edges_of (cell_at cells i).1.poly)
+    → slice_index (row_at (local_points cells).edge_places i) e ≡ place_in (edges_among cells) (point_of (cell_edge (cell_at cells i).0 (cell_at cells i).1 (e, edge_at (cell_at cells i).1.poly e)))
+own-edge_place cells i e low h = edge-place cells i e (vertex_sight 0) low (omega (arith, length-edges (cell_at cells i).0 (cell_at cells i).1, h))
+    ∙ ap (λ s. place_in (edges_among cells) (point_of s)) (edge-is_at (cell_at cells i).0 (cell_at cells i).1 e h)
 
 -- ---- from own places to places by key
 
@@ -125,8 +131,7 @@ module _ (cells : List (ℕ × Cell)) (local : Local) (held : Held) (is : local 
     )
 
     own-edge : slice_index (row_at local.edge_places i) e ≡ place_in (edges_among cells) (point_of (cell_edge (cell_at cells i).0 (cell_at cells i).1 (e, edge_at (cell_at cells i).1.poly e)))
-    own-edge = ap (λ (p : Local). slice_index (row_at p.edge_places i) e) is ∙ edge-place cells i e (vertex_sight 0) low edge-low
-        ∙ ap (λ s. place_in (edges_among cells) (point_of s)) (edge-is_at (cell_at cells i).0 (cell_at cells i).1 e h)
+    own-edge = ap (λ (p : Local). slice_index (row_at p.edge_places i) e) is ∙ own-edge_place cells i e low h
 
     own-edge_shown : list_any (shows (point_of (cell_edge (cell_at cells i).0 (cell_at cells i).1 (e, edge_at (cell_at cells i).1.poly e)))) (edges_among cells) ≡ true
     own-edge_shown = subst (λ s. list_any (shows (point_of s)) (edges_among cells) ≡ true) (edge-is_at (cell_at cells i).0 (cell_at cells i).1 e h)
@@ -152,14 +157,17 @@ module _ (cells : List (ℕ × Cell)) (local : Local) (held : Held) (is : local 
   pub edge-rows : i < length local.edge_places
   edge-rows = omega (arith, ap (λ (p : Local). length p.edge_places) is, length-edge_places cells, low)
 
--- the place by key of an own edge that is found by its ends
-pub found-moved : (local : Local) (held : Held) (placed : ArePlaced local held) (q : Point) → list_any (shows q) held.edges ≡ true → (place_in local.edges q < length held.edge_moves) × (slice_index held.edge_moves (place_in local.edges q) ≡ place_in held.edges q)
-found-moved local held placed q h =
-    let own = placed.own q h in (
-      omega (arith, position-within (shows q) local.edges own, ap length placed.edge_moves, length-map local.edges (λ s. place_in held.edges (point_of s))),
-      ap (λ l. slice_index l (place_in local.edges q)) placed.edge_moves ∙ moved held.edges local.edges q own,
-    )
+-- an edge of a cell is an own edge
+pub edge-own : (cells : List (ℕ × Cell)) (i : ℕ) (q : Point) → i < length cells → list_any (shows q) (cell_edges (cell_at cells i).0 (cell_at cells i).1) ≡ true → list_any (shows q) (edges_among cells) ≡ true
+edge-own cells i q low h =
+    let own = all_at (λ (c : ℕ × Cell). AllByRecursion (λ s. list_any (shows (point_of s)) (edges_among cells) ≡ true) (cell_edges c.0 c.1)) cells i (cell_at [] 0)
+    (all_in_flat_map (λ s. list_any (shows (point_of s)) (edges_among cells) ≡ true) (λ (c : ℕ × Cell). cell_edges c.0 c.1) cells (shown_among_firsts (edges_seen cells))) low in
+    let (s, there, shown) = among (λ s. list_any (shows (point_of s)) (edges_among cells) ≡ true) (shows q) (cell_edges (cell_at cells i).0 (cell_at cells i).1) own h in
+    ap (λ p. list_any (shows p) (edges_among cells)) (shows-true q s shown) ∙ there
 
--- what is there is found at its place
-pub position-some : {X : Type 0} (p : X → Bool) (xs : List X) → list_any p xs ≡ true → position p xs ≡ Some (position_or_len p xs)
-position-some p xs h = cond-true (nat_lt (position_or_len p xs) (length xs)) (Some (position_or_len p xs)) None (lt-ltb (position_or_len p xs) (length xs) (position-within p xs h))
+-- the place by key of an own edge that is found by its ends
+pub found-moved : (local : Local) (held : Held) (placed : ArePlaced local held) (q : Point) → list_any (shows q) local.edges ≡ true → (place_in local.edges q < length held.edge_moves) × (slice_index held.edge_moves (place_in local.edges q) ≡ place_in held.edges q)
+found-moved local held placed q own = (
+  omega (arith, position-within (shows q) local.edges own, ap length placed.edge_moves, length-map local.edges (λ s. place_in held.edges (point_of s))),
+  ap (λ l. slice_index l (place_in local.edges q)) placed.edge_moves ∙ moved held.edges local.edges q own,
+)

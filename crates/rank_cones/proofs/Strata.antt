@@ -1,6 +1,6 @@
 -- Where the points of a rank stand in its chart, where the entries of their cones do, and what cells see up to one of them.
 use Rattle.std.proofs.Common.{◌≡◌, ◌⊎◌, ℕ, ◌+◌, ◌-◌, ◌<◌, ◌≤◌, Bool, true, false, ◌||◌, ◌==◌, List, [], ◌∷◌, ◌++◌, length, take, drop, Option, Some, None, append-nil, append_assoc, refl, sym, ap, ◌∙◌, subst, inl, inr, ⊎_elim, arith}
-use Rattle.std.specs.Prelude.{find, option_map, slice_index, if◌then◌else◌}
+use Rattle.std.specs.Prelude.{find, option_map, is_none, slice_index, if◌then◌else◌}
 use Rattle.std.specs.List.{list_any, position_or_len, AllByRecursion}
 use Rattle.std.proofs.lemmas.Bool.{eq-eqb, ne_eqb, cond-true, cond-false}
 use Rattle.std.proofs.lemmas.List.{take_more, take-append-drop}
@@ -9,8 +9,8 @@ use Rattle.std.proofs.lemmas.List.Folds.{list_any-append}
 use Rattle.mesh_defs.specs.declared.Poly.{Poly}
 use Rattle.mesh_defs.specs.declared.ConeEntry.{ConeEntry}
 use Rattle.plain_lists.specs.Lists.{picked}
-use Rattle.plain_lists.proofs.Each.{all_weaker, all_map}
-use Rattle.plain_lists.proofs.Finding.{position-within, find-append_none, find-append_found, find-none, found-any}
+use Rattle.plain_lists.proofs.Each.{all_weaker, all_map, all_in_flat_map}
+use Rattle.plain_lists.proofs.Finding.{position-within, find-append_none, find-append_found, find-none, found-any, each_fails, find-cases}
 use Rattle.mesh_defs.specs.Tables.{Facet, dim_of, facets_of}
 use Rattle.mesh_defs.specs.Mesh.{Cell}
 use Rattle.mesh_defs.specs.Points.{Sight, point_on, shows, cell_faces}
@@ -171,3 +171,15 @@ twist-of points cells i low before (Twist key) h = ap (option_map (λ (s : Sight
 
     whole : find t (face_sights cells) ≡ find t here
     whole = ap (find t) pieces ∙ find-append_none t (face_sights (take i cells)) (here ++ face_sights rest) before ∙ find-append_found t here (face_sights rest) shown
+
+-- an answer that is not none is some
+pub some-answer : {X : Type 0} (o : Option X) → is_none o ≡ false → (x : X) × (o ≡ Some x)
+some-answer None h = absurd (cc h)
+some-answer (Some x) h = (x, refl)
+
+-- where there is no first twist, no cell sees a face under no orientation
+pub turned-all : (points : List Sight) (cells : List (ℕ × Cell)) → first_twist points (face_sights cells) ≡ None → AllByRecursion (λ (c : ℕ × Cell). AllByRecursion (λ (s : Sight). is_twisted points s ≡ false) (cell_faces c.0 c.1)) cells
+turned-all points cells none = all_in_flat_map (λ (s : Sight). is_twisted points s ≡ false) (λ (c : ℕ × Cell). cell_faces c.0 c.1) cells
+    (each_fails (is_twisted points) (face_sights cells)
+    (⊎_elim (λ (w : (s : Sight) × (find (is_twisted points) (face_sights cells) ≡ Some s)). absurd (cc (sym none ∙ ap (option_map (λ (s : Sight). s.key)) w.1))) (λ e. e)
+    (find-cases (is_twisted points) (face_sights cells))))

@@ -1,15 +1,15 @@
 -- The diagram of parts that fit together is whole where no cell sees a face under no orientation: each entry is of a point with the
 -- polytope of its facet, under an orientation.
 use Rattle.std.proofs.Common.{◌≡◌, ℕ, suc, ◌+◌, ◌^◌, ◌<◌, Bool, true, false, cond, ◌==◌, List, [], ◌∷◌, ◌++◌, map, length, get_or, slice_index, ℤ, pos, negsuc, Option, Some, None, Contains, refl, sym, ap, ap₂, ◌∙◌, subst, subst₂, ⊎_elim, length-append, arith}
-use Rattle.std.specs.Prelude.{find, option_map, option_and_then, unwrap_or, is_none}
+use Rattle.std.specs.Prelude.{find, option_and_then, unwrap_or, is_none}
 use Rattle.std.specs.List.{list_any, position_or_len, AllZip, AllByRecursion, enumerate_from}
 use Rattle.std.specs.Cmp.Lexicographic.{same_text}
 use Rattle.std.proofs.lemmas.Bool.{and_parts, eqb-true, eq-eqb, ne_eqb, cond-true, cond-false, both_ways}
 use Rattle.std.proofs.lemmas.List.{length-map, get_or-map, get_or_append_left, get_or-append-add}
 use Rattle.std.proofs.lemmas.List.Elements.{All-from_recursion}
 use Rattle.plain_lists.specs.Lists.{same_list, sorted, picked}
-use Rattle.plain_lists.proofs.Each.{each_passes, all_weaker, all_both, all_map, all_mapped, all_append, all_at, all_in_flat_map, all_from}
-use Rattle.plain_lists.proofs.Finding.{position-within, each_fails, find-cases, find-has, find-passes}
+use Rattle.plain_lists.proofs.Each.{each_passes, all_weaker, all_both, all_map, all_mapped, all_append, all_at, all_from}
+use Rattle.plain_lists.proofs.Finding.{position-within, find-cases, find-has, find-passes}
 use Rattle.mesh_defs.specs.declared.Poly.{Poly}
 use Rattle.mesh_defs.specs.declared.Poly.TheVariants.{Vertex, Segment}
 use Rattle.mesh_defs.specs.Tables.{Facet, dim_of, corner_count, facets_of, edges_of}
@@ -27,6 +27,7 @@ use Rattle.diagram_laws.specs.Strata.{face_sights, turn_among, entry_from, cone_
 use Rattle.rank_diagram_laws.specs.Parts.{Parts, sides, HasFacets, IsCellPart, IsFacePart, IsEdgePart, AreParts, cell_part, face_part, end_part, edge_part, parts_diagram}
 use Rattle.rank_cones.specs.Placed.{sight_at}
 use Rattle.rank_cones.proofs.Polygons.{pair-long}
+use Rattle.rank_cones.proofs.Strata.{some-answer, turned-all}
 
 -- ---- lists
 
@@ -166,13 +167,6 @@ module _ (p : Parts) (fit : AreParts p) where
   -- ---- faces
 
   module _ (none : first_twist p.faces (face_sights p.cells) ≡ None) where
-    -- no cell sees a face under no orientation
-    untwisted : AllByRecursion (λ (c : ℕ × Cell). AllByRecursion (λ (s : Sight). is_none (turn_among p.faces s.poly s.arrangement) ≡ false) (cell_faces c.0 c.1)) p.cells
-    untwisted = all_in_flat_map (λ (s : Sight). is_none (turn_among p.faces s.poly s.arrangement) ≡ false) (λ (c : ℕ × Cell). cell_faces c.0 c.1) p.cells
-        (each_fails (λ (s : Sight). is_none (turn_among p.faces s.poly s.arrangement)) (face_sights p.cells)
-        (⊎_elim (λ (w : (s : Sight) × (find (λ (s : Sight). is_none (turn_among p.faces s.poly s.arrangement)) (face_sights p.cells) ≡ Some s)). absurd (cc (sym none ∙ ap (option_map (λ (s : Sight). s.key)) w.1))) (λ e. e)
-        (find-cases (λ (s : Sight). is_none (turn_among p.faces s.poly s.arrangement)) (face_sights p.cells))))
-
     -- the faces of a solid, without their keys
     from-faces : (P : Poly → List ℕ → Type 0) (n : ℕ) (cell : Cell) → dim_of cell.poly ≡ 3 → AllByRecursion (λ (s : Sight). P s.poly s.arrangement) (cell_faces n cell) → AllByRecursion (λ (f : Facet). P f.poly (picked cell.vertices f.corners)) (facets_of cell.poly)
     from-faces P n cell solid h = without 0 (facets_of cell.poly) (all_mapped (λ (s : Sight). P s.poly s.arrangement) (cell_face n cell) (enumerate_from 0 (facets_of cell.poly))
@@ -181,11 +175,6 @@ module _ (p : Parts) (fit : AreParts p) where
         without : (k : ℕ) (fs : List Facet) → AllByRecursion (λ (f : ℕ × Facet). P f.1.poly (picked cell.vertices f.1.corners)) (enumerate_from k fs) → AllByRecursion (λ (f : Facet). P f.poly (picked cell.vertices f.corners)) fs
         without k [] x = tt
         without k (f ∷ fs) x = (x.0, without (k + 1) fs x.1)
-
-    -- an answer that is not none is some
-    some-answer : {X : Type 0} (o : Option X) → is_none o ≡ false → (x : X) × (o ≡ Some x)
-    some-answer None h = absurd (cc h)
-    some-answer (Some x) h = (x, refl)
 
     -- the faces of a solid fit
     solid-fits : (cell : Cell) → dim_of cell.poly ≡ 3 → HasFacets p.faces (facets_of cell.poly) cell.vertices → AllByRecursion (λ (f : Facet). is_none (turn_among p.faces f.poly (picked cell.vertices f.corners)) ≡ false) (facets_of cell.poly)
@@ -215,7 +204,7 @@ module _ (p : Parts) (fit : AreParts p) where
 
     cells-fit : AllByRecursion Fits (map (cell_part p) p.cells)
     cells-fit = all_map Fits (cell_part p) p.cells (all_both (IsCellPart p) (λ (c : ℕ × Cell). AllByRecursion (λ (s : Sight). is_none (turn_among p.faces s.poly s.arrangement) ≡ false) (cell_faces c.0 c.1)) (λ c. Fits (cell_part p c))
-        (λ c part turns. ⊎_elim (flat c part) (solid c part turns) fit.dim) p.cells fit.cells untwisted)
+        (λ c part turns. ⊎_elim (flat c part) (solid c part turns) fit.dim) p.cells fit.cells (turned-all p.faces p.cells none))
       where
         flat : (c : ℕ × Cell) → IsCellPart p c → p.dim ≡ 2 → Fits (cell_part p c)
         flat c part two =

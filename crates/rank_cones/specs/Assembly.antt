@@ -6,16 +6,18 @@ use Rattle.local_points.specs.Points.{Local, local_points}
 use Rattle.held_points.specs.Held.{Held}
 use Rattle.rank_diagram_laws.specs.Parts.{Parts, AreParts}
 use Rattle.rank_cones.specs.Placed.{ArePlaced}
+use Rattle.rank_cones.specs.Seen.{AreSeen}
 
 -- the parts that these cells, vertices, faces and edges are
 abbrev pub rank_parts : ℕ → List (ℕ × Cell) → List ℕ → Held → Parts
 rank_parts dim cells vertices held = record { dim = dim; cells = cells; vertices = vertices; faces = held.faces; edges = held.edges }
 
--- parts that fit together, with the places of the cells' own points
+-- parts that fit together, with the places of the cells' own points; some cell has each of the faces
 pub record AreWhole (p : Parts) (local : Local) (held : Held) : Type 0 where
   pub parts : AreParts p
   pub local_is : local ≡ local_points p.cells
   pub placed : ArePlaced local held
+  pub seen : AreSeen p.cells held.faces
 
 -- the numbers are those of the parts
 pub record IsFor (p : Parts) (g : Diagram) : Type 0 where

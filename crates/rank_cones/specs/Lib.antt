@@ -1,3 +1,4 @@
 pub mod Placed
+pub mod Seen
 pub mod Assembly
 pub mod Ranks

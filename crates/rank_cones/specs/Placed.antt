@@ -1,9 +1,9 @@
 -- Where the cells of a rank have their faces and edges among those that the rank holds by key.
-use Rattle.std.specs.Prelude.{◌≡◌, ℕ, Bool, true, ◌^◌, List, get_or, Some, is_none}
-use Rattle.std.specs.List.{list_any, AllByRecursion}
+use Rattle.std.specs.Prelude.{◌≡◌, ℕ, Bool, ◌^◌, List, get_or, Some, is_none}
+use Rattle.std.specs.List.{AllByRecursion}
 use Rattle.mesh_defs.specs.Tables.{dim_of, corner_count, facets_of}
 use Rattle.mesh_defs.specs.Mesh.{Cell}
-use Rattle.mesh_defs.specs.Points.{Point, Sight, shows, vertex_sight}
+use Rattle.mesh_defs.specs.Points.{Sight, vertex_sight}
 use Rattle.mesh_defs.specs.Sights.{IsEdgeSight}
 use Rattle.local_points.specs.Points.{Local, places_in}
 use Rattle.held_points.specs.Held.{Held}
@@ -12,13 +12,12 @@ use Rattle.rank_diagram_laws.specs.Parts.{IsList, HasFacets, IsFacePart}
 use Rattle.rank_cones.specs.declared.stop.Stop.{Stop}
 use Rattle.rank_cones.specs.declared.stop.Stop.TheVariants.{Twist, NoMemory}
 
--- own points go to their places; faces are polygons, and edges have two ends, and each edge is an own edge
+-- own points go to their places; faces are polygons, and edges have two ends
 pub record ArePlaced (local : Local) (held : Held) : Type 0 where
   pub face_moves : held.face_moves ≡ places_in held.faces local.faces
   pub edge_moves : held.edge_moves ≡ places_in held.edges local.edges
   pub faces : AllByRecursion IsFacePart held.faces
   pub edges : AllByRecursion (IsEdgeSight (2 ^ 32)) held.edges
-  pub own : (q : Point) → list_any (shows q) held.edges ≡ true → list_any (shows q) local.edges ≡ true
 
 -- a cell of this dimension on different vertices, each of whose facets is one of these points
 pub record IsOn (dim : ℕ) (points : List Sight) (cell : Cell) : Type 0 where

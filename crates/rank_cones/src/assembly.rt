@@ -8,6 +8,7 @@ ghost use Rattle.rank_cones.specs.Placed.{IsFirstTwist};
 ghost use Rattle.rank_cones.specs.Assembly.{rank_parts, AreWhole, IsFor};
 
 use crate::cones::{cell_cone, face_cone};
+use crate::seen::seeing_cells;
 use crate::sides::end_entry;
 use crate::stop::Stop;
 use held_points::HeldPoints;
@@ -15,6 +16,7 @@ use local_points::{CellList, LocalPoints};
 use mesh_defs::{ConeEntry, Poly};
 use plex_base::NoMemory;
 use plex_chart::PlexBuilder;
+use std::alloc::Global;
 
 /// The cells with their cones, which `cone` holds one after another.
 pub(crate) fn push_cells<C: CellList>(
@@ -55,6 +57,7 @@ pub(crate) fn push_vertices(plex: &mut PlexBuilder, vertices: u32) -> Result<(),
 
 /// The faces with their cones, which `cone` holds one after another.
 pub(crate) fn push_faces<C: CellList>(
+    alloc: Global,
     plex: &mut PlexBuilder,
     cone: &mut Vec<ConeEntry>,
     cells: &C,
@@ -69,8 +72,10 @@ pub(crate) fn push_faces<C: CellList>(
     ensures { OnOk result (plex.new ≡ record plex.old { points = plex.old.points ++ map (face_part (rank_parts plex.old.dim (C.cells cells.now) vertices.now held.now)) held.now.faces }) }
 {
     let base = cells.len() as u32 + vertices.len() as u32 + held.faces();
+    let seeing = seeing_cells(alloc, cells, local, held)?;
     for k in 0..held.faces() {
-        face_cone(cone, base, local, held, k)?;
+        let i = seeing[k as usize] as usize;
+        face_cone(cone, base, cells, local, held, i, k)?;
         plex.push(held.face(k).1, cone)?;
     }
     Ok(())

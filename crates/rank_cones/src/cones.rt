@@ -2,13 +2,14 @@
 
 ghost use Rattle.std.specs.Prelude.{◌≡◌, ◌⊎◌, ◌+◌, ◌<◌, ◌==◌, ◌^◌, false, if◌then◌else◌, length, OnOk, IfErr};
 ghost use Rattle.std.specs.List.{list_any};
-ghost use Rattle.mesh_defs.specs.Tables.{dim_of, facets_of};
+ghost use Rattle.mesh_defs.specs.Tables.{dim_of, corner_count, facets_of};
 ghost use Rattle.mesh_defs.specs.Points.{cell_faces};
 ghost use Rattle.diagram_laws.specs.Strata.{cone_from};
 ghost use Rattle.local_points.specs.Cells.{cell_at};
 ghost use Rattle.local_points.specs.Points.{local_points};
 ghost use Rattle.rank_diagram_laws.specs.Parts.{HasFacets};
 ghost use Rattle.rank_cones.specs.Placed.{ArePlaced, IsOn, IsFirstTwist, is_twisted, sight_at};
+ghost use Rattle.rank_cones.specs.Seen.{HasSides};
 
 use crate::faces::face_entry;
 use crate::sides::{cell_side, face_side};
@@ -94,23 +95,29 @@ fn polygon_cone<C: CellList>(
     Ok(())
 }
 
-/// The edges of face `k`, where the edges are numbered from `base`.
-pub(crate) fn face_cone(
+/// The edges of face `k`, which cell `i` has, where the edges are numbered from `base`.
+pub(crate) fn face_cone<C: CellList>(
     cone: &mut Vec<ConeEntry>,
     base: u32,
+    cells: &C,
     local: &LocalPoints,
     held: &HeldPoints,
+    i: usize,
     k: u32,
 ) -> Result<(), NoMemory>
+    requires local { local.now ≡ local_points (C.cells cells.now) }
     requires placed { ArePlaced local.now held.now }
+    requires cell { i < length (C.cells cells.now) }
+    requires corners { length (cell_at (C.cells cells.now) i).1.vertices ≡ corner_count (cell_at (C.cells cells.now) i).1.poly }
     requires face { k < length held.now.faces }
+    requires seen { HasSides (cell_at (C.cells cells.now) i) (sight_at held.now.faces k) }
     requires sides { HasFacets held.now.edges (facets_of (sight_at held.now.faces k).poly) (sight_at held.now.faces k).arrangement }
     requires room { base + length held.now.edges < 2 ^ 32 }
     ensures { OnOk result (cone.new.items ≡ cone_from base held.now.edges (sight_at held.now.faces k).poly (sight_at held.now.faces k).arrangement) }
 {
     cone.clear();
     for j in 0..edge_count(held.face(k).1) {
-        cone.push(face_side(base, local, held, k, j))?;
+        cone.push(face_side(base, cells, local, held, i, k, j))?;
     }
     Ok(())
 }

@@ -5,6 +5,7 @@ mod assembly;
 mod cones;
 mod drawn;
 mod faces;
+mod seen;
 mod sides;
 mod stop;
 mod whole;

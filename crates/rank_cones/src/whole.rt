@@ -62,7 +62,7 @@ fn assemble<C: CellList>(
     let mut cone = Vec::new(alloc);
     push_cells(&mut plex, &mut cone, cells, vertices, local, held)?;
     push_vertices(&mut plex, ends)?;
-    push_faces(&mut plex, &mut cone, cells, vertices, local, held)?;
+    push_faces(alloc, &mut plex, &mut cone, cells, vertices, local, held)?;
     push_edges(&mut plex, cells, vertices, held)?;
     Ok(plex.finish()?)
 }

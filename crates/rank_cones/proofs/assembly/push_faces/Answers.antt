@@ -10,11 +10,39 @@ use Rattle.mesh_defs.specs.Points.{Sight, vertex_sight}
 use Rattle.mesh_defs.specs.Diagram.{Diagram}
 use Rattle.plex_chart.specs.Chart.{IsInStratum}
 use Rattle.diagram_laws.specs.Strata.{cone_from}
-use Rattle.rank_diagram_laws.specs.Parts.{Parts, HasFacets, IsFacePart, face_part}
+use Rattle.rank_diagram_laws.specs.Parts.{Parts, HasFacets, IsCellPart, IsFacePart, face_part}
 use Rattle.rank_cones.specs.Placed.{sight_at}
 use Rattle.rank_cones.specs.Assembly.{rank_parts, IsFor}
+use Rattle.local_points.specs.Cells.{cell_at}
+use Rattle.rank_cones.proofs.Seeing.{seeing-has, has-sides, solids-on}
 use Rattle.rank_cones.proofs.Strata.{in-faces, still-for, solid-where, face-below}
 use Rattle.rank_cones.proofs.assembly.push_faces.Goals as goal
+
+pub seeing_cells-requires-clause-solids : goal.seeing_cells-requires-clause-solids
+seeing_cells-requires-clause-solids g c = solids-on (rank_parts c.args.plex.now.dim (g.C.CellList.cells c.args.cells.now) c.args.vertices.now c.args.held.now) c.requires.whole.parts
+
+pub face_cone-requires-clause-cell : goal.face_cone-requires-clause-cell
+face_cone-requires-clause-cell g c =
+    let cells : List (ℕ × Cell) = g.C.CellList.cells c.args.cells.now in
+    let within : c.loop-k.k < length c.args.held.now.faces = omega (arith, c.loop-k-test.true, c.faces-k-end.ensures.count) in
+    (seeing-has cells c.args.held.now.faces c.in_ok-seeing.seeing.items c.requires.whole.seen c.in_ok-seeing.ensures c.loop-k.k c.index.result.now within c.index.ensures).cell
+
+pub face_cone-requires-clause-corners : goal.face_cone-requires-clause-corners
+face_cone-requires-clause-corners g c =
+    let cells : List (ℕ × Cell) = g.C.CellList.cells c.args.cells.now in
+    let p : Parts = rank_parts c.args.plex.now.dim cells c.args.vertices.now c.args.held.now in
+    let within : c.loop-k.k < length c.args.held.now.faces = omega (arith, c.loop-k-test.true, c.faces-k-end.ensures.count) in
+    let has = seeing-has cells c.args.held.now.faces c.in_ok-seeing.seeing.items c.requires.whole.seen c.in_ok-seeing.ensures c.loop-k.k c.index.result.now within c.index.ensures in
+    (all_at (IsCellPart p) cells c.index.result.now (cell_at [] 0) c.requires.whole.parts.cells has.cell).list.long
+
+pub face_cone-requires-clause-seen : goal.face_cone-requires-clause-seen
+face_cone-requires-clause-seen g c =
+    let cells : List (ℕ × Cell) = g.C.CellList.cells c.args.cells.now in
+    let faces : List Sight = c.args.held.now.faces in
+    let p : Parts = rank_parts c.args.plex.now.dim cells c.args.vertices.now c.args.held.now in
+    let within : c.loop-k.k < length faces = omega (arith, c.loop-k-test.true, c.faces-k-end.ensures.count) in
+    let has = seeing-has cells faces c.in_ok-seeing.seeing.items c.requires.whole.seen c.in_ok-seeing.ensures c.loop-k.k c.index.result.now within c.index.ensures in
+    has-sides p c.requires.whole.parts c.loop-k.k c.index.result.now has within c.requires.untwisted
 
 pub face_cone-requires-clause-sides : goal.face_cone-requires-clause-sides
 face_cone-requires-clause-sides g c =

@@ -13,7 +13,7 @@ use Rattle.rank_cones.proofs.Polygons.{length-sides, side-facet}
 use Rattle.rank_cones.proofs.cones.face_cone.Goals as goal
 
 pub face_side-requires-clause-side : goal.face_side-requires-clause-side
-face_side-requires-clause-side c =
+face_side-requires-clause-side g c =
     let faces : List Sight = c.args.held.now.faces in
     let t : Sight = sight_at faces c.args.k in
     let own : Sight = record { key = c.face.result.0.0; poly = c.face.result.1; arrangement = c.face.result.2.now } in
@@ -21,7 +21,7 @@ face_side-requires-clause-side c =
     omega (arith, c.loop-j-test.true, c.edge_count-j-end.ensures, ap (λ (s : Sight). length (edges_of s.poly)) is)
 
 pub loop-j-preserved : goal.loop-j-preserved
-loop-j-preserved c =
+loop-j-preserved g c =
     let faces : List Sight = c.args.held.now.faces in
     let t : Sight = sight_at faces c.args.k in
     let own : Sight = record { key = c.face.result.0.0; poly = c.face.result.1; arrangement = c.face.result.2.now } in
@@ -34,7 +34,7 @@ loop-j-preserved c =
     c.in_ok-push.ensures.items ∙ (λ i. c.loop-j.invariant i ++ entry i ∷ []) ∙ sym (map_more entry-of (facets_of t.poly) j (record { poly = Vertex; corners = [] }) (omega (arith, within, length-sides t.poly two)))
 
 pub returns : goal.returns
-returns c =
+returns g c =
     let faces : List Sight = c.args.held.now.faces in
     let t : Sight = sight_at faces c.args.k in
     let own : Sight = record { key = c.face.result.0.0; poly = c.face.result.1; arrangement = c.face.result.2.now } in

@@ -6,4 +6,4 @@ use Rattle.rank_cones.specs.Placed.{sight_at}
 use Rattle.rank_cones.proofs.cones.face_cone.Given as goal
 
 abbrev pub invariant-loop-j : goal.invariant-loop-j
-invariant-loop-j l = l.cone.items ≡ map (λ (f : Facet). entry_from l.base l.held.edges f.poly (picked (sight_at l.held.faces l.k).arrangement f.corners)) (take l.j (facets_of (sight_at l.held.faces l.k).poly))
+invariant-loop-j g l = l.cone.items ≡ map (λ (f : Facet). entry_from l.base l.held.edges f.poly (picked (sight_at l.held.faces l.k).arrangement f.corners)) (take l.j (facets_of (sight_at l.held.faces l.k).poly))
