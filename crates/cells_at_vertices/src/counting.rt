@@ -46,7 +46,7 @@ pub fn cells_at_vertices<R: Threads + Sync, F: Fabric>(
     ensures kept { OnOk result ((r : Record) × IsHomeRound mesh.now (first_ranks mesh.now plan.now.plan) plan.now.plan.ranks r × (F.kept fabric.new ≡ kept_with (F.kept fabric.old) r)) }
     ensures fault { IfErr result (λ fault. IsTwistOf mesh.now fault) }
 {
-    let scatter = seed(alloc, mesh, plan, fabric)?;
+    let scatter = seed(rt, alloc, mesh, plan, fabric)?;
     let shared = share(rt, alloc, scatter, fabric)?;
     let (dist, _home) = orient(rt, alloc, shared, fabric)?;
     Ok(whole_counts(alloc, &dist, fabric)?)

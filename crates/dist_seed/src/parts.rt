@@ -15,6 +15,7 @@ use rank_marks::rank_marks;
 use scatter_state::{PartLists, RankPart};
 use section_rows::{RowTable, rows_of};
 use std::alloc::Global;
+use std::thread::Threads;
 use vertex_owners::owners_at;
 
 /// What each of so many ranks holds, where `ranks` has the rank of each cell.
@@ -57,7 +58,8 @@ pub(crate) struct Sources<'a> {
 }
 
 /// What rank `rank` is given that holds these cells.
-fn part_of(
+fn part_of<R: Threads + Sync>(
+    rt: &R,
     alloc: Global,
     from: &Sources<'_>,
     rank: u32,
@@ -71,7 +73,7 @@ fn part_of(
 {
     // It is a right mesh: the proof takes this from the call.
     let _dim = from.mesh.dim();
-    let marks = rank_marks(alloc, from.mesh, &own)?;
+    let marks = rank_marks(rt, alloc, from.mesh, &own)?;
     let lists = own.into_lists();
     let owners = owners_at(alloc, from.owners, &lists.vertices)?;
     let at = coordinates_of(alloc, from.mesh, &lists.vertices)?;
@@ -90,7 +92,8 @@ fn part_of(
 }
 
 /// What each rank is given that holds its cells.
-pub(crate) fn parts_of(
+pub(crate) fn parts_of<R: Threads + Sync>(
+    rt: &R,
     alloc: Global,
     from: &Sources<'_>,
     held: Vec<RankCells>,
@@ -105,7 +108,7 @@ pub(crate) fn parts_of(
     let mut parts = Vec::with_capacity(alloc, held.len())?;
     for own in held {
         let rank = parts.len() as u32;
-        parts.push(part_of(alloc, from, rank, own)?)?;
+        parts.push(part_of(rt, alloc, from, rank, own)?)?;
     }
     Ok(parts)
 }

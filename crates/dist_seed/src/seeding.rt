@@ -15,15 +15,17 @@ use scatter_state::Scatter;
 use section_rows::tables_of;
 use sf_fabric::Fabric;
 use std::alloc::Global;
+use std::thread::Threads;
 use vertex_owners::vertex_owners;
 
 /// Gives each rank the cells that the plan's first part assigns to it, and what belongs to them: their
 /// vertices with coordinates and owners, the marks on their points, and the rows of data of cells and
 /// vertices. After the first half of `DMPlexDistribute` of PETSc. Owners are found by fetch-and-Min over
-/// the fabric.
+/// the fabric. What the cells of a rank see is listed in threads of their own where these can be started.
 ///
 /// The plan fits the mesh. No round is kept. Fails only for want of memory.
-pub fn seed<F: Fabric>(
+pub fn seed<R: Threads + Sync, F: Fabric>(
+    rt: &R,
     alloc: Global,
     mesh: &Mesh,
     plan: &Plan,
@@ -45,7 +47,7 @@ pub fn seed<F: Fabric>(
         owners: &owners,
         tables: &tables,
     };
-    let parts = parts_of(alloc, &from, held)?;
+    let parts = parts_of(rt, alloc, &from, held)?;
     let sections = sections_of(alloc, mesh)?;
     let dofs = dofs_of(alloc, plan)?;
     Ok(Scatter::of(mesh.cells(), sections, dofs, parts))

@@ -53,7 +53,7 @@ fn points_of(
     ensures { IfOk result (λ points. IsKnown scatter.now rank points) }
 {
     let part = scatter.part(rank);
-    let labels = part_labels(alloc, part, seen.local())?;
+    let labels = part_labels(alloc, part, seen.finder())?;
     let sets = point_sets(alloc, part, &seen)?;
     Ok(OwnPoints::of(seen.into_local(), sets, labels, fields))
 }

@@ -12,7 +12,7 @@ use Rattle.mesh_defs.specs.Mesh.{Cell}
 use Rattle.mesh_defs.specs.Points.{point_of, point_on, cell_edge, cell_edges}
 use Rattle.mesh_defs.specs.Sights.{edge_sight}
 use Rattle.local_points.specs.Cells.{edges_seen}
-use Rattle.local_points.specs.declared.edges.Edge.{Edge}
+use Rattle.local_points.specs.declared.seen_edges.Edge.{Edge}
 use Rattle.local_points.specs.Stored.{edge_sight_of, edge_set}
 use Rattle.plain_lists.specs.Lists.{picked}
 use Rattle.local_points.proofs.Arrays.{two-of}
@@ -51,7 +51,7 @@ edge-more n cell e k a b h key from to =
     ∙ (λ i. map (cell_edge n cell) (take e (enumerate_from 0 edges)) ++ record { key = sym key i; poly = Segment; arrangement = picked cell.vertices (ends i) } ∷ [])
 
 -- at most twelve edges of a cell
-edges-twelve : (p : Poly) → length (edges_of p) ≤ 12
+pub edges-twelve : (p : Poly) → length (edges_of p) ≤ 12
 edges-twelve Vertex = omega arith
 edges-twelve Segment = omega arith
 edges-twelve Triangle = omega arith
@@ -59,9 +59,12 @@ edges-twelve Quad = omega arith
 edges-twelve Tet = omega arith
 edges-twelve Hex = omega arith
 
--- and of each of some cells
+-- a cell sees the edges of its table
+pub length-cell_edges : (c : ℕ × Cell) → length (cell_edges c.0 c.1) ≡ length (edges_of c.1.poly)
+length-cell_edges c = length-map (enumerate_from 0 (edges_of c.1.poly)) (cell_edge c.0 c.1) ∙ length-enumerate_from 0 (edges_of c.1.poly)
+
+-- and each of some cells
 pub length-edges_seen : (cells : List (ℕ × Cell)) → length (edges_seen cells) ≤ 12 * length cells
 length-edges_seen [] = omega arith
 length-edges_seen (c ∷ cs) =
-    let own = cell_edges c.0 c.1 in
-    omega (arith, length-append own (edges_seen cs), length-edges_seen cs, edges-twelve c.1.poly, length-map (enumerate_from 0 (edges_of c.1.poly)) (cell_edge c.0 c.1), length-enumerate_from 0 (edges_of c.1.poly))
+    omega (arith, length-append (cell_edges c.0 c.1) (edges_seen cs), length-edges_seen cs, edges-twelve c.1.poly, length-cell_edges c)

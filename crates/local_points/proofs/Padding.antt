@@ -11,7 +11,7 @@ use Rattle.std.proofs.lemmas.List.{length-take}
 use Rattle.plain_lists.proofs.Sorted.{all_sorted}
 use Rattle.mesh_defs.specs.declared.Poly.TheVariants.{Triangle, Quad}
 use Rattle.mesh_defs.specs.Points.{Sight, point_of, shows}
-use Rattle.local_points.specs.declared.faces.Face.{Face}
+use Rattle.local_points.specs.declared.seen_faces.Face.{Face}
 use Rattle.local_points.specs.Stored.{no_vertex, face_sight_of, face_set, face_point, IsFace, IsSetOn, IsOnNoFace, AreFaces}
 use Rattle.local_points.proofs.Arrays.{three-and-last}
 use Rattle.local_points.proofs.Places.{Tells, found-by_set}

@@ -1,15 +1,13 @@
 -- The faces of solids by their tables.
-use Rattle.std.proofs.Common.{rules, ◌≡◌, ◌⊎◌, ℕ, ⊎_elim, ◌+◌, ◌*◌, ◌<◌, ◌≤◌, List, [], ◌∷◌, ◌++◌, map, length, get_or, take, refl, sym, ap, ◌∙◌, inl, inr, arith, length-append}
-use Rattle.std.specs.List.{AllByRecursion, enumerate_from}
-use Rattle.std.proofs.lemmas.List.{map_more}
-use Rattle.std.proofs.lemmas.List.FromFn.{length-enumerate_from, get_or-enumerate_from}
-use Rattle.plain_lists.specs.Lists.{picked}
+use Rattle.std.proofs.Common.{rules, ◌≡◌, ◌⊎◌, ℕ, ⊎_elim, ◌*◌, ◌<◌, ◌≤◌, List, [], ◌∷◌, length, refl, inl, inr, arith, length-append}
+use Rattle.std.specs.Prelude.{◌==◌, if◌then◌else◌}
+use Rattle.std.specs.List.{AllByRecursion}
 use Rattle.plain_lists.proofs.Each.{all_at}
 use Rattle.mesh_defs.specs.declared.Poly.{Poly}
 use Rattle.mesh_defs.specs.declared.Poly.TheVariants.{Vertex, Segment, Triangle, Quad, Tet, Hex}
 use Rattle.mesh_defs.specs.Tables.{Facet, dim_of, corner_count, facets_of, facet_at}
 use Rattle.mesh_defs.specs.Mesh.{Cell}
-use Rattle.mesh_defs.specs.Points.{cell_face, cell_faces}
+use Rattle.mesh_defs.specs.Points.{cell_faces}
 use Rattle.local_points.specs.Cells.{faces_seen}
 
 -- three corners of a solid, or a quadrilateral
@@ -40,32 +38,29 @@ triangle-face p f solid within other =
     let is = all_at (IsTriangleOrQuad (corner_count p)) (facets_of p) f (record { poly = Vertex; corners = [] }) (solid-faces p solid) within in
     ⊎_elim (λ t. (t.0, (t.1, is.corners))) (λ q. absurd (other q)) is.kind
 
--- one more face of a cell
-pub face-more : (n : ℕ) (cell : Cell) (f k : ℕ) → f < length (facets_of cell.poly) → k ≡ 64 * n + 1 + f
-    → map (cell_face n cell) (take (f + 1) (enumerate_from 0 (facets_of cell.poly)))
-    ≡ map (cell_face n cell) (take f (enumerate_from 0 (facets_of cell.poly))) ++ record { key = k; poly = (facet_at cell.poly f).poly; arrangement = picked cell.vertices (facet_at cell.poly f).corners } ∷ []
-face-more n cell f k h key =
-    let faces = facets_of cell.poly in
-    let none : Facet = record { poly = Vertex; corners = [] } in
-    let within : f < length (enumerate_from 0 faces) = omega (arith, length-enumerate_from 0 faces) in
-    let place : 0 + f ≡ f = omega arith in
-    let here : get_or (enumerate_from 0 faces) f (0, none) ≡ (f, facet_at cell.poly f) = get_or-enumerate_from 0 faces f (0, none) h ∙ (λ i. (place i, facet_at cell.poly f)) in
-    map_more (cell_face n cell) (enumerate_from 0 faces) f (0, none) within
-    ∙ ap (λ x. map (cell_face n cell) (take f (enumerate_from 0 faces)) ++ cell_face n cell x ∷ []) here
-    ∙ (λ i. map (cell_face n cell) (take f (enumerate_from 0 faces)) ++ record { key = sym key i; poly = (facet_at cell.poly f).poly; arrangement = picked cell.vertices (facet_at cell.poly f).corners } ∷ [])
+-- a solid sees the faces of its table, a polygon none
+length-faces_of : (n : ℕ) (p : Poly) (vertices : List ℕ) → length (cell_faces n (record { poly = p; vertices = vertices })) ≡ (if dim_of p == 3 then length (facets_of p) else 0)
+length-faces_of n Vertex vertices = omega arith
+length-faces_of n Segment vertices = omega arith
+length-faces_of n Triangle vertices = omega arith
+length-faces_of n Quad vertices = omega arith
+length-faces_of n Tet vertices = omega arith
+length-faces_of n Hex vertices = omega arith
+
+pub length-cell_faces : (c : ℕ × Cell) → length (cell_faces c.0 c.1) ≡ (if dim_of c.1.poly == 3 then length (facets_of c.1.poly) else 0)
+length-cell_faces c = length-faces_of c.0 c.1.poly c.1.vertices
 
 -- at most six faces of a cell
-faces-six : (n : ℕ) (p : Poly) (vertices : List ℕ) → length (cell_faces n (record { poly = p; vertices = vertices })) ≤ 6
-faces-six n Vertex vertices = omega arith
-faces-six n Segment vertices = omega arith
-faces-six n Triangle vertices = omega arith
-faces-six n Quad vertices = omega arith
-faces-six n Tet vertices = omega arith
-faces-six n Hex vertices = omega arith
+pub count-six : (p : Poly) → (if dim_of p == 3 then length (facets_of p) else 0) ≤ 6
+count-six Vertex = omega arith
+count-six Segment = omega arith
+count-six Triangle = omega arith
+count-six Quad = omega arith
+count-six Tet = omega arith
+count-six Hex = omega arith
 
 -- and of each of some cells
 pub length-faces_seen : (cells : List (ℕ × Cell)) → length (faces_seen cells) ≤ 6 * length cells
 length-faces_seen [] = omega arith
 length-faces_seen (c ∷ cs) =
-    let own = cell_faces c.0 c.1 in
-    omega (arith, length-append own (faces_seen cs), length-faces_seen cs, faces-six c.0 c.1.poly c.1.vertices)
+    omega (arith, length-append (cell_faces c.0 c.1) (faces_seen cs), length-faces_seen cs, count-six c.1.poly, length-cell_faces c)

@@ -1,5 +1,5 @@
 -- Faces and edges as strata of the cells' own chart, and the places of each cell's entries.
-use Rattle.std.proofs.Common.{◌≡◌, ℕ, ◌<◌, ◌≤◌, Bool, true, false, cond, List, [], ◌∷◌, ◌++◌, map, length, get_or, refl, sym, ap, ap₂, ◌∙◌, arith}
+use Rattle.std.proofs.Common.{◌≡◌, ℕ, ◌<◌, ◌≤◌, Bool, List, [], ◌∷◌, ◌++◌, length, get_or, refl, sym, ap, ap₂, ◌∙◌, arith}
 use Rattle.std.specs.Prelude.{◌==◌, filter, slice_index}
 use Rattle.std.specs.List.{AllByRecursion}
 use Rattle.std.proofs.lemmas.List.{length-map, get_or-map}
@@ -12,7 +12,7 @@ use Rattle.mesh_defs.specs.Points.{Sight, point_of, cell_faces, cell_edges, sigh
 use Rattle.mesh_defs.specs.Diagram.{firsts, place_in}
 use Rattle.rank_defs.specs.Spread.{own_stratum}
 use Rattle.local_points.specs.Cells.{cell_at, faces_seen, edges_seen}
-use Rattle.local_points.specs.Points.{Local, places_in, faces_among, edges_among, local_points, row_at}
+use Rattle.local_points.specs.Points.{places_in, faces_among, edges_among, local_points, row_at}
 
 -- ---- strata
 

@@ -4,8 +4,9 @@ use Rattle.std.specs.List.{AllByRecursion}
 use Rattle.plain_lists.specs.Lists.{sorted, same_list}
 use Rattle.mesh_defs.specs.declared.Poly.TheVariants.{Segment, Triangle, Quad}
 use Rattle.mesh_defs.specs.Points.{Point, Sight, shows}
-use Rattle.local_points.specs.declared.edges.Edge.{Edge}
-use Rattle.local_points.specs.declared.faces.Face.{Face}
+use Rattle.local_points.specs.Points.{Local}
+use Rattle.local_points.specs.declared.seen_edges.Edge.{Edge}
+use Rattle.local_points.specs.declared.seen_faces.Face.{Face}
 
 -- an edge as a cell sees it
 abbrev pub edge_sight_of : Edge → Sight
@@ -51,3 +52,22 @@ pub record IsOnNoFace (vertices : List ℕ) : Type 0 where
 pub record AreFaces (sets : List (List ℕ)) (faces : List Face) : Type 0 where
   pub found : sets ≡ map face_set faces
   pub sound : AllByRecursion IsFace faces
+
+-- sets by which faces that are seen so are found
+pub record AreFaceSets (sets : List (List ℕ)) (seen : List Sight) : Type 0 where
+  pub faces : List Face
+  pub are : AreFaces sets faces
+  pub shown : map face_sight_of faces ≡ seen
+
+-- sets by which edges that are seen so are found
+pub record AreEdgeSets (sets : List (List ℕ)) (seen : List Sight) : Type 0 where
+  pub edges : List Edge
+  pub are : sets ≡ map edge_set edges
+  pub shown : map edge_sight_of edges ≡ seen
+
+-- the tables by which these faces and edges are found
+pub record AreFound (face_sets edge_sets : List (List ℕ)) (local : Local) : Type 0 where
+  pub faces : AreFaceSets face_sets local.faces
+  pub edges : AreEdgeSets edge_sets local.edges
+  pub few_faces : length local.faces ≤ 1500000
+  pub few_edges : length local.edges ≤ 3000000

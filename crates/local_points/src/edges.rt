@@ -1,39 +1,41 @@
-//! Edges: as cells see them, and the table in which each of them is found again.
+//! The table in which each edge is found again.
 
-ghost use Rattle.std.specs.Prelude.{◌≡◌, ◌+◌, ◌<◌, ◌≤◌, ◌^◌, [], ◌∷◌, ◌++◌, map, length, position, IfOk, OnOk, Some};
+ghost use Rattle.std.specs.Prelude.{◌≡◌, ◌+◌, ◌<◌, ◌≤◌, ◌^◌, [], ◌∷◌, map, length, IfOk, OnOk, Some};
 ghost use Rattle.std.specs.List.{slice_get};
 ghost use Rattle.mesh_defs.specs.declared.Poly.TheVariants.{Segment};
-ghost use Rattle.mesh_defs.specs.Points.{point_of, point_on, shows, cell_edges};
+ghost use Rattle.mesh_defs.specs.Points.{point_of};
 ghost use Rattle.mesh_defs.specs.Diagram.{firsts, place_in};
-ghost use Rattle.local_points.specs.Cells.{IsFit, AreFit, cell_at, edges_seen};
-ghost use Rattle.local_points.specs.Points.{with_sight, places_in, beginnings, edges_among, edge_places};
-ghost use Rattle.local_points.specs.Stored.{edge_sight_of};
+ghost use Rattle.local_points.specs.Cells.{AreFit};
+ghost use Rattle.local_points.specs.Points.{with_sight, places_in, edges_among, edge_places};
+ghost use Rattle.local_points.specs.Stored.{AreEdgeSets, edge_sight_of};
 
 use crate::cell_list::CellList;
 use crate::entries::Entries;
+use crate::seen_edges::{Edge, edge_firsts, see_edges};
 use crate::sets::rising_two;
 use indexmap::IndexSet;
 use plex_base::{NoMemory, PointKey};
-use poly_tables::{edge_corner, edge_count};
 use std::alloc::Global;
 use std::marker::Model;
-
-/// An edge as a cell sees it: its key there, and its ends in the order of the cell's table.
-#[derive(Clone, Copy, Debug)]
-pub(crate) struct Edge {
-    key: u32,
-    ends: [u32; 2],
-}
-
-/// What cells see, one cell after another, and where each cell begins; one place more, where the
-/// last cell ends.
-#[derive(Drop)]
-struct SeenEdges {
-    edges: Vec<Edge>,
-    firsts: Vec<u32>,
-}
+use std::thread::Threads;
 
 /// Edges in the order of first sight, each as it was seen first. Contracts see them as sights.
+#[derive(Drop)]
+pub(crate) struct Edges {
+    edges: Vec<Edge>,
+}
+
+impl Model for Edges {
+    ghost use Rattle.std.specs.Prelude.{List, map};
+    ghost use Rattle.mesh_defs.specs.Points.{Sight};
+    ghost use Rattle.local_points.specs.Stored.{edge_sight_of};
+
+    ghost Value = { List Sight };
+
+    ghost view = { λ t. map edge_sight_of t.edges.items };
+}
+
+/// Edges with the table by which each of them is found again while they are numbered.
 #[derive(Drop)]
 pub(crate) struct EdgeTable {
     /// The ends of each edge, the smaller one first.
@@ -54,7 +56,8 @@ impl Model for EdgeTable {
 }
 
 /// The edges of these cells, and for each cell where its edges stand among them.
-pub(crate) fn join_edges<C: CellList>(
+pub(crate) fn join_edges<R: Threads + Sync, C: CellList + Sync>(
+    rt: &R,
     alloc: Global,
     cells: &C,
 ) -> Result<(EdgeTable, Entries), NoMemory>
@@ -62,46 +65,28 @@ pub(crate) fn join_edges<C: CellList>(
     ensures edges { IfOk result (λ r. r.0 ≡ edges_among (C.cells cells.now)) }
     ensures places { IfOk result (λ r. r.1 ≡ edge_places (C.cells cells.now)) }
 {
-    let seen = see_edges(alloc, cells)?;
+    let seen = see_edges(rt, alloc, cells)?;
+    let firsts = edge_firsts(alloc, cells)?;
     let mut table = EdgeTable::new(alloc);
-    let places = table.number(alloc, &seen.edges)?;
-    Ok((table, Entries::new(places, seen.firsts)))
+    let places = table.number(alloc, &seen)?;
+    Ok((table, Entries::new(places, firsts)))
 }
 
-/// The edges of each cell in turn, as the cell sees them.
-fn see_edges<C: CellList>(alloc: Global, cells: &C) -> Result<SeenEdges, NoMemory>
-    requires { AreFit (C.cells cells.now) }
-    ensures edges { IfOk result (λ seen. map edge_sight_of seen.edges.items ≡ edges_seen (C.cells cells.now)) }
-    ensures firsts { IfOk result (λ seen. seen.firsts.items ≡ beginnings (λ c. cell_edges c.0 c.1) (C.cells cells.now)) }
-{
-    let mut edges = Vec::new(alloc);
-    let mut firsts = Vec::with_capacity(alloc, cells.len() + 1)?;
-    firsts.push(0)?;
-    for i in 0..cells.len() {
-        push_edges(&mut edges, cells, i)?;
-        firsts.push(edges.len() as u32)?;
+impl Edges {
+    pub(crate) fn len(&self) -> usize
+        ensures { result ≡ length self.now }
+    {
+        self.edges.len()
     }
-    Ok(SeenEdges { edges, firsts })
-}
 
-/// Puts the edges of cell `i` behind those of earlier cells.
-fn push_edges<C: CellList>(edges: &mut Vec<Edge>, cells: &C, i: usize) -> Result<(), NoMemory>
-    requires cell { i < length (C.cells cells.now) }
-    requires fit { IsFit (cell_at (C.cells cells.now) i) }
-    ensures { OnOk result (map edge_sight_of edges.new.items ≡ map edge_sight_of edges.old.items ++ cell_edges (cell_at (C.cells cells.now) i).0 (cell_at (C.cells cells.now) i).1) }
-{
-    let poly = cells.poly(i);
-    let corners = cells.corners(i);
-    let first_key = 64 * cells.number(i) + 8;
-    for e in 0..edge_count(poly) {
-        let from = corners[edge_corner(poly, e, 0)];
-        let to = corners[edge_corner(poly, e, 1)];
-        edges.push(Edge {
-            key: first_key + e as u32,
-            ends: [from, to],
-        })?;
+    /// The key and the ends of edge `k`.
+    pub(crate) fn get(&self, k: usize) -> (PointKey, [u32; 2])
+        requires { k < length self.now }
+        ensures { slice_get self.now k ≡ Some (record { key = result.0.0; poly = Segment; arrangement = result.1 }) }
+    {
+        let edge = &self.edges[k];
+        (PointKey(u64::from(edge.key)), edge.ends)
     }
-    Ok(())
 }
 
 impl EdgeTable {
@@ -142,27 +127,12 @@ impl EdgeTable {
         Ok(place as u32)
     }
 
-    pub(crate) fn len(&self) -> usize
-        ensures { result ≡ length self.now }
+    /// The sets by which the edges are found, and the edges. Takes no memory.
+    pub(crate) fn into_parts(self) -> (IndexSet<[u32; 2]>, Edges)
+        ensures edges { result.1 ≡ self }
+        ensures sets { AreEdgeSets result.0.keys self }
     {
-        self.edges.len()
-    }
-
-    /// The key and the ends of edge `k`.
-    pub(crate) fn get(&self, k: usize) -> (PointKey, [u32; 2])
-        requires { k < length self.now }
-        ensures { slice_get self.now k ≡ Some (record { key = result.0.0; poly = Segment; arrangement = result.1 }) }
-    {
-        let edge = &self.edges[k];
-        (PointKey(u64::from(edge.key)), edge.ends)
-    }
-
-    /// The place of the edge between two vertices.
-    pub(crate) fn find(&self, a: u32, b: u32) -> Option<u32>
-        requires { length self.now ≤ 3000000 }
-        ensures { result ≡ position (shows (point_on Segment (a ∷ b ∷ []))) self.now }
-    {
-        let place = self.sets.get_index_of(&rising_two([a, b]))?;
-        Some(place as u32)
+        let EdgeTable { sets, edges } = self;
+        (sets, Edges { edges })
     }
 }

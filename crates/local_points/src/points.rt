@@ -1,19 +1,13 @@
-ghost use Rattle.std.specs.Prelude.{◌≡◌, ◌<◌, ◌≤◌, [], ◌∷◌, length, slice_index, position, IfOk, Some};
+ghost use Rattle.std.specs.Prelude.{◌≡◌, ◌<◌, ◌≤◌, length, slice_index, Some};
 ghost use Rattle.std.specs.List.{slice_get};
-ghost use Rattle.plain_lists.specs.Lists.{sorted};
 ghost use Rattle.mesh_defs.specs.declared.Poly.TheVariants.{Segment};
-ghost use Rattle.mesh_defs.specs.Points.{shows, point_on};
-ghost use Rattle.mesh_defs.specs.Sights.{edge_sight};
-ghost use Rattle.local_points.specs.Cells.{AreFit};
-ghost use Rattle.local_points.specs.Points.{local_points, row_at};
+ghost use Rattle.local_points.specs.Points.{row_at};
 
-use crate::cell_list::CellList;
-use crate::edges::{EdgeTable, join_edges};
+use crate::edges::Edges;
 use crate::entries::Entries;
-use crate::faces::{FaceTable, join_faces};
+use crate::faces::Faces;
 use mesh_defs::Poly;
-use plex_base::{NoMemory, PointKey};
-use std::alloc::Global;
+use plex_base::PointKey;
 use std::marker::Model;
 
 /// The faces and edges of a list of cells, each once, as these cells alone see them.
@@ -23,8 +17,8 @@ use std::marker::Model;
 /// keys where the numbers of the cells rise. Only solids have faces here; a polygon is a cell.
 #[derive(Drop)]
 pub struct LocalPoints {
-    faces: FaceTable,
-    edges: EdgeTable,
+    faces: Faces,
+    edges: Edges,
     face_places: Entries,
     edge_places: Entries,
 }
@@ -41,20 +35,23 @@ impl Model for LocalPoints {
 }
 
 impl LocalPoints {
-    /// Finds the faces and edges of these cells: at most 250,000 polygons and solids with numbers
-    /// below 250,000, as many vertices as corners, each below 2^32 - 1.
-    pub fn of<C: CellList>(alloc: Global, cells: &C) -> Result<LocalPoints, NoMemory>
-        requires { AreFit (C.cells cells.now) }
-        ensures { IfOk result (λ p. p ≡ local_points (C.cells cells.now)) }
+    /// These faces and edges, and for each cell where it has them. Takes no memory.
+    pub(crate) fn of_parts(
+        faces: Faces,
+        edges: Edges,
+        face_places: Entries,
+        edge_places: Entries,
+    ) -> LocalPoints
+        requires faces { length faces ≤ 1500000 }
+        requires edges { length edges ≤ 3000000 }
+        ensures { result ≡ record { faces = faces; edges = edges; face_places = face_places; edge_places = edge_places } }
     {
-        let (faces, face_places) = join_faces(alloc, cells)?;
-        let (edges, edge_places) = join_edges(alloc, cells)?;
-        Ok(LocalPoints {
+        LocalPoints {
             faces,
             edges,
             face_places,
             edge_places,
-        })
+        }
     }
 
     /// How many faces there are.
@@ -105,19 +102,5 @@ impl LocalPoints {
         ensures { result ≡ slice_index (row_at self.now.edge_places i) e }
     {
         self.edge_places.get(i, e)
-    }
-
-    /// The place of the face on these vertices, in any order; none where no cell has it.
-    pub fn find_face(&self, vertices: &[u32]) -> Option<u32>
-        ensures { result ≡ position (shows (record { dim = 2; vertices = sorted vertices.now })) self.now.faces }
-    {
-        self.faces.find(vertices)
-    }
-
-    /// The place of the edge between two vertices, in any order; none where no cell has it.
-    pub fn find_edge(&self, a: u32, b: u32) -> Option<u32>
-        ensures { result ≡ position (shows (point_on Segment (a ∷ b ∷ []))) self.now.edges }
-    {
-        self.edges.find(a, b)
     }
 }

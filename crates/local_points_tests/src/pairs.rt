@@ -1,6 +1,6 @@
 ghost use Rattle.std.specs.Prelude.{◌≡◌, [], ◌∷◌, length};
 
-use local_points::{CellList, LocalPoints};
+use local_points::{CellList, LocalPoints, PointFinder};
 use mesh_defs::Poly;
 use plex_base::PointKey;
 use std::test::Fail;
@@ -43,7 +43,7 @@ fn face(points: &LocalPoints, k: u32) -> Option<(PointKey, Poly, &[u32])> {
 }
 
 /// Edge `k`, if there are so many.
-fn edge(points: &LocalPoints, k: u32) -> Option<(PointKey, [u32; 2])> {
+pub(crate) fn edge(points: &LocalPoints, k: u32) -> Option<(PointKey, [u32; 2])> {
     if k < points.edges() {
         Some(points.edge(k))
     } else {
@@ -58,12 +58,13 @@ fn cubes_share_a_face(rt: HostRuntime) -> Result<(), Fail> {
         first: &[0, 1, 2, 3, 4, 5, 6, 7],
         second: &[4, 5, 6, 7, 8, 9, 10, 11],
     };
-    let points = LocalPoints::of(rt.alloc(), &cubes)?;
+    let finder = PointFinder::of(&rt, rt.alloc(), &cubes)?;
+    let points = finder.local();
     assert_eq!(rt; (points.faces(), points.edges()), (11, 20));
-    assert_eq!(rt; points.find_face(&[7, 5, 4, 6]), Some(1));
-    assert_eq!(rt; points.find_face(&[0, 1, 6, 7]), None);
-    assert_eq!(rt; points.find_edge(5, 4), Some(4));
-    assert_eq!(rt; points.find_edge(0, 6), None);
+    assert_eq!(rt; finder.find_face(&[7, 5, 4, 6]), Some(1));
+    assert_eq!(rt; finder.find_face(&[0, 1, 6, 7]), None);
+    assert_eq!(rt; finder.find_edge(5, 4), Some(4));
+    assert_eq!(rt; finder.find_edge(0, 6), None);
     Ok(())
 }
 
@@ -74,7 +75,9 @@ fn first_cell_gives_key_and_order(rt: HostRuntime) -> Result<(), Fail> {
         first: &[0, 1, 2, 3],
         second: &[1, 0, 2, 4],
     };
-    let points = LocalPoints::of(rt.alloc(), &tetrahedra)?;
+    let finder = PointFinder::of(&rt, rt.alloc(), &tetrahedra)?;
+    assert_eq!(rt; finder.find_face(&[2, 1, 0]), Some(0));
+    let points = finder.into_local();
     assert_eq!(rt; (points.faces(), points.edges()), (7, 9));
     assert_eq!(rt; (points.face_of(1, 0), points.edge_of(1, 0)), (0, 0));
     let seen = face(&points, 0);
@@ -84,6 +87,5 @@ fn first_cell_gives_key_and_order(rt: HostRuntime) -> Result<(), Fail> {
     );
     assert_eq!(rt; edge(&points, 0), Some((PointKey(200), [0, 1])));
     assert_eq!(rt; edge(&points, 6), Some((PointKey(459), [1, 4])));
-    assert_eq!(rt; points.find_face(&[2, 1, 0]), Some(0));
     Ok(())
 }

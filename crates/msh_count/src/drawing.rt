@@ -19,7 +19,6 @@ use std::thread::Threads;
 /// The mesh on one rank, which has its whole diagram.
 ///
 /// A mesh with a twisted face is refused.
-#[tactic(auto, unfolding(input_defs::specs::Plans::misfit, input_defs::specs::Plans::misfits))]
 pub(crate) fn on_one_rank<R: Threads + Sync>(
     rt: &R,
     alloc: Global,
@@ -29,7 +28,7 @@ pub(crate) fn on_one_rank<R: Threads + Sync>(
 {
     let plan = Plan::plain(alloc)?;
     let mut fabric = ThreadFabric::new(rt, alloc, NoGate);
-    let scatter = seed(alloc, mesh, &plan, &mut fabric)?;
+    let scatter = seed(rt, alloc, mesh, &plan, &mut fabric)?;
     let shared = share(rt, alloc, scatter, &mut fabric)?;
     let (dist, _) = orient(rt, alloc, shared, &mut fabric)?;
     Ok(dist)

@@ -15,8 +15,8 @@ use Rattle.mesh_defs.specs.Diagram.{firsts}
 use Rattle.mesh_defs.specs.Sights.{points_differ}
 use Rattle.mesh_defs.specs.RightMesh.{IsRightMesh, IsSoundCell, AreCells, in_some}
 use Rattle.plex_defs.specs.Labels.{label_of, mesh_label}
-use Rattle.point_labels.specs.Sets.{IsShort}
-use Rattle.point_labels.proofs.Filled.{cells-short}
+use Rattle.mark_laws.specs.Sets.{IsShort}
+use Rattle.mark_laws.proofs.Filled.{cells-short}
 use Rattle.label_laws.specs.Marks.{marked_pairs}
 use Rattle.field_laws.specs.Kept.{kept_marks}
 use Rattle.field_laws.proofs.Marks.{own-label}

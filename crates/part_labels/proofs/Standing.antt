@@ -17,8 +17,8 @@ use Rattle.mesh_defs.specs.Diagram.{place_in}
 use Rattle.mesh_laws.proofs.Containing.{shows-vertex, eqb-sym}
 use Rattle.rank_laws.proofs.Found.{one-entry, two-entries}
 use Rattle.diagram_laws.proofs.Edges.{OfDim, none-of_dim}
-use Rattle.point_labels.specs.Sets.{IsShort}
-use Rattle.point_labels.proofs.Marks.{on-cell, on-vertex, on-edge, not-above}
+use Rattle.mark_laws.specs.Sets.{IsShort}
+use Rattle.mark_laws.proofs.Marks.{on-cell, on-vertex, on-edge, not-above}
 use Rattle.local_points.specs.Points.{faces_among, edges_among}
 use Rattle.rank_defs.specs.Spread.{ScatterPart}
 use Rattle.scatter_state.specs.Parts.{mark_at}

@@ -14,8 +14,8 @@ use Rattle.mesh_defs.specs.Mesh.{Mesh, Cell}
 use Rattle.mesh_defs.specs.Points.{Sight, point_of, shows, cell_sight, vertex_sight}
 use Rattle.mesh_defs.specs.Sights.{points_differ}
 use Rattle.mesh_laws.proofs.Firsts.{same_point-sym}
-use Rattle.point_labels.specs.Sets.{filled, IsShort}
-use Rattle.point_labels.proofs.Filled.{filled-same}
+use Rattle.mark_laws.specs.Sets.{filled, IsShort}
+use Rattle.mark_laws.proofs.Filled.{filled-same}
 use Rattle.local_points.specs.Points.{faces_among, edges_among}
 use Rattle.rank_defs.specs.Spread.{ScatterPart}
 use Rattle.part_labels.specs.Parts.{IsPartOf, cells_among, points_of_part}

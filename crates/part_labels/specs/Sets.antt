@@ -1,7 +1,7 @@
 -- The cells of a part by the sets of their vertices.
 use Rattle.std.specs.Prelude.{◌≡◌, ◌⊎◌, ℕ, List, [], map}
 use Rattle.mesh_defs.specs.Mesh.{Cell}
-use Rattle.point_labels.specs.Sets.{filled}
+use Rattle.mark_laws.specs.Sets.{filled}
 
 -- the set of a cell
 abbrev pub set_of : ℕ × Cell → List ℕ

@@ -3,7 +3,7 @@
 ghost use Rattle.std.specs.Prelude.{◌≡◌, ℕ, ◌≤◌, [], length, position, IfOk, OnOk};
 ghost use Rattle.plain_lists.specs.Lists.{same_set};
 ghost use Rattle.mesh_defs.specs.Mesh.{Cell};
-ghost use Rattle.point_labels.specs.Sets.{filled, IsShort};
+ghost use Rattle.mark_laws.specs.Sets.{filled, IsShort};
 ghost use Rattle.part_labels.specs.Parts.{IsSomePart};
 ghost use Rattle.part_labels.specs.Sets.{IsTableOf, IsTableOrNone};
 

@@ -12,7 +12,7 @@ ghost use Rattle.part_labels.specs.Parts.{IsPartOf, IsSomePart, points_of_part, 
 
 use crate::cells::CellTable;
 use crate::places::marked_place;
-use local_points::LocalPoints;
+use local_points::PointFinder;
 use plex_base::{Dim, NoMemory};
 use plex_label::Label;
 use scatter_state::RankPart;
@@ -21,19 +21,19 @@ use std::alloc::Global;
 /// The labels of vertices, edges, faces and solids that a rank sees of its own cells, by the places of points in
 /// its own chart: for each mark that it was given the mark's value on its point. After `DMLabelSetValue`.
 ///
-/// The part is what some mesh gives to some rank, and `local` are the faces and edges of its cells. There are four
+/// The part is what some mesh gives to some rank, and `finder` finds the faces and edges of its cells. There are four
 /// labels, of dimension 0 to 3. One look-up for each mark; the cells are found by their vertices only where a mark
 /// is on a cell. Fails only for want of memory.
 pub fn part_labels(
     alloc: Global,
     part: &RankPart,
-    local: &LocalPoints,
+    finder: &PointFinder,
 ) -> Result<Vec<Label>, NoMemory>
     requires given { IsSomePart part.now }
-    requires local { local.now ≡ local_points part.now.cells }
+    requires local { finder.now ≡ local_points part.now.cells }
     ensures { IfOk result (λ found. (m : Mesh) (a : List ℕ) (n : ℕ) (r : ℕ) → IsPartOf part.now m a n r → found.items ≡ labels m (own_chart m (assigned m a r))) }
 {
-    let found = labels_of_marks(alloc, part, local)?;
+    let found = labels_of_marks(alloc, part, finder)?;
     Ok(found)
 }
 
@@ -41,16 +41,16 @@ pub fn part_labels(
 fn labels_of_marks(
     alloc: Global,
     part: &RankPart,
-    local: &LocalPoints,
+    finder: &PointFinder,
 ) -> Result<Vec<Label>, NoMemory>
     requires given { IsSomePart part.now }
-    requires local { local.now ≡ local_points part.now.cells }
+    requires local { finder.now ≡ local_points part.now.cells }
     ensures { IfOk result (λ found. found.items ≡ labels_from (points_of_part part.now) part.now.marks) }
 {
     let mut cells = CellTable::new(alloc);
     let mut found = no_labels(alloc)?;
     for i in 0..part.marks() as usize {
-        if let Some(place) = marked_place(part, local, &mut cells, i)? {
+        if let Some(place) = marked_place(part, finder, &mut cells, i)? {
             let (dim, _, value) = part.mark(i);
             add_pair(&mut found, dim, place, value)?;
         }

@@ -12,7 +12,7 @@ ghost use Rattle.part_labels.specs.Parts.{IsSomePart, points_of_part};
 ghost use Rattle.part_labels.specs.Sets.{IsTableOf, IsTableOrNone};
 
 use crate::cells::CellTable;
-use local_points::LocalPoints;
+use local_points::PointFinder;
 use plex_base::{Dim, NoMemory};
 use poly_tables::dim as dim_of_poly;
 use scatter_state::RankPart;
@@ -31,9 +31,9 @@ fn vertex_place(vertices: &[u32], vertex: u32) -> u32
 }
 
 /// The place of the point below the cells that mark `i` is on.
-fn lower_place(part: &RankPart, local: &LocalPoints, i: usize) -> Option<u32>
+fn lower_place(part: &RankPart, finder: &PointFinder, i: usize) -> Option<u32>
     requires given { IsSomePart part.now }
-    requires local { local.now ≡ local_points part.now.cells }
+    requires local { finder.now ≡ local_points part.now.cells }
     requires mark { i < length part.now.marks }
     requires lower { (mark_at part.now.marks i).dim ≢ dim_of (cell_at part.now.cells 0).1.poly }
     ensures { result ≡ Some (place_in (points_of_part part.now) (marked_point (mark_at part.now.marks i))) }
@@ -44,10 +44,10 @@ fn lower_place(part: &RankPart, local: &LocalPoints, i: usize) -> Option<u32>
     match dim {
         Dim::Zero => Some(cells + vertex_place(part.vertices(), vertices[0])),
         Dim::One => {
-            let k = local.find_edge(vertices[0], vertices[1])?;
-            Some(behind_vertices + local.faces() + k)
+            let k = finder.find_edge(vertices[0], vertices[1])?;
+            Some(behind_vertices + finder.local().faces() + k)
         }
-        _ => Some(behind_vertices + local.find_face(vertices)?),
+        _ => Some(behind_vertices + finder.find_face(vertices)?),
     }
 }
 
@@ -55,12 +55,12 @@ fn lower_place(part: &RankPart, local: &LocalPoints, i: usize) -> Option<u32>
 /// cell.
 pub(crate) fn marked_place(
     part: &RankPart,
-    local: &LocalPoints,
+    finder: &PointFinder,
     cells: &mut CellTable,
     i: usize,
 ) -> Result<Option<u32>, NoMemory>
     requires given { IsSomePart part.now }
-    requires local { local.now ≡ local_points part.now.cells }
+    requires local { finder.now ≡ local_points part.now.cells }
     requires table { IsTableOrNone part.now.cells cells.old.sets.keys }
     requires mark { i < length part.now.marks }
     ensures place { IfOk result (λ place. place ≡ Some (place_in (points_of_part part.now) (marked_point (mark_at part.now.marks i)))) }
@@ -68,7 +68,7 @@ pub(crate) fn marked_place(
 {
     let (dim, vertices, _) = part.mark(i);
     if dim.number() != dim_of_poly(part.poly(0)) {
-        return Ok(lower_place(part, local, i));
+        return Ok(lower_place(part, finder, i));
     }
     cells.fill(part)?;
     Ok(cells.find(part, vertices))

@@ -32,7 +32,7 @@ fn met<R: Threads + Sync, F: Fabric>(
     ensures shared { IfOk result (λ s. IsShared s task.now.mesh (counts_of task.now.plan.plan.dofs) (first_ranks task.now.mesh task.now.plan.plan) task.now.plan.plan.ranks) }
     ensures kept { F.kept fabric.new ≡ F.kept fabric.old }
 {
-    let scatter = seed(alloc, &task.mesh, &task.plan, fabric)?;
+    let scatter = seed(rt, alloc, &task.mesh, &task.plan, fabric)?;
     share(rt, alloc, scatter, fabric)
 }
 

@@ -52,7 +52,7 @@ fn three_triangles_meet_by_threads(rt: HostRuntime) -> Result<(), Fail> {
         .map_err(|_| Fail::from("the plan does not fit"))?;
     for _ in 0..20 {
         let mut fabric = ThreadFabric::new(&rt, rt.alloc(), NoGate);
-        let scatter = seed(rt.alloc(), &mesh, &plan, &mut fabric)?;
+        let scatter = seed(&rt, rt.alloc(), &mesh, &plan, &mut fabric)?;
         let shared = share(&rt, rt.alloc(), scatter, &mut fabric)?;
         assert_eq!(rt; shared.ranks(), 2);
         assert_eq!(rt; (shared.points(0), shared.points(1)), (7, 13));

@@ -15,10 +15,10 @@ use Rattle.mesh_laws.proofs.Firsts.{list_any-firsts}
 use Rattle.rank_laws.proofs.Found.{one-entry, two-entries}
 use Rattle.diagram_laws.proofs.Parts.{cell-dims}
 use Rattle.plex_mesh.specs.Right.{mark_at}
-use Rattle.point_labels.specs.Sets.{IsShort}
-use Rattle.point_labels.proofs.Counting.{vertices-few}
-use Rattle.point_labels.proofs.Filled.{cells-short}
-use Rattle.point_labels.proofs.Marks.{on-cell, on-vertex, on-edge, not-above}
+use Rattle.mark_laws.specs.Sets.{IsShort}
+use Rattle.mark_laws.proofs.Counting.{vertices-few}
+use Rattle.mark_laws.proofs.Filled.{cells-short}
+use Rattle.mark_laws.proofs.Marks.{on-cell, on-vertex, on-edge, not-above}
 use Rattle.local_points.specs.Cells.{AreFit, IsFit, faces_seen, edges_seen}
 use Rattle.seed_laws.specs.Given.{has_vertex, vertices_of, vertex_point}
 use Rattle.seed_laws.proofs.Vertices.{cells-high, in_some-vertex}

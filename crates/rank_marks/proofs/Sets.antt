@@ -14,8 +14,8 @@ use Rattle.plain_lists.specs.Lists.{same_list, same_set}
 use Rattle.plain_lists.proofs.Each.{all_weaker}
 use Rattle.plain_lists.proofs.Finding.{any_agree, position-within, position-none}
 use Rattle.mesh_defs.specs.Mesh.{Cell}
-use Rattle.point_labels.specs.Sets.{filled, IsShort}
-use Rattle.point_labels.proofs.Filled.{filled-same}
+use Rattle.mark_laws.specs.Sets.{filled, IsShort}
+use Rattle.mark_laws.proofs.Filled.{filled-same}
 use Rattle.rank_marks.specs.Own.{AreTold, AreShort, HasSets, some_on}
 
 -- a place is found where something passes

@@ -4,7 +4,7 @@ use Rattle.std.specs.List.{list_any, AllByRecursion}
 use Rattle.plain_lists.specs.Lists.{same_list, same_set}
 use Rattle.mesh_defs.specs.Mesh.{Mesh, Cell}
 use Rattle.local_points.specs.Points.{local_points}
-use Rattle.point_labels.specs.Sets.{filled, IsShort}
+use Rattle.mark_laws.specs.Sets.{filled, IsShort}
 use Rattle.rank_cells.specs.Own.{Held}
 use Rattle.seed_laws.specs.Given.{vertices_of}
 use Rattle.rank_marks.specs.declared.own_points.OwnPoints.{OwnPoints}

@@ -4,7 +4,7 @@ ghost use Rattle.std.specs.Prelude.{◌≡◌, ℕ, ◌≤◌, List, length, IfO
 ghost use Rattle.std.specs.List.{list_any, AllByRecursion};
 ghost use Rattle.plain_lists.specs.Lists.{same_list, same_set};
 ghost use Rattle.mesh_defs.specs.Mesh.{Cell};
-ghost use Rattle.point_labels.specs.Sets.{filled, IsShort};
+ghost use Rattle.mark_laws.specs.Sets.{filled, IsShort};
 ghost use Rattle.rank_marks.specs.Own.{AreShort, HasSets, some_on};
 
 use indexmap::IndexSet;

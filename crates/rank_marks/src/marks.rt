@@ -17,6 +17,7 @@ use scatter_state::MarkHead;
 use sf_fabric::FlatLists;
 use std::alloc::Global;
 use std::marker::Model;
+use std::thread::Threads;
 
 /// More marks than these no rank is given: memory for them can't be had.
 const TOO_MANY_MARKS: usize = 4_294_967_296;
@@ -113,7 +114,12 @@ fn keep_marks(
 /// cells come their vertices.
 ///
 /// Fails only for want of memory.
-pub fn rank_marks(alloc: Global, mesh: &Mesh, own: &RankCells) -> Result<RankMarks, NoMemory>
+pub fn rank_marks<R: Threads + Sync>(
+    rt: &R,
+    alloc: Global,
+    mesh: &Mesh,
+    own: &RankCells,
+) -> Result<RankMarks, NoMemory>
     requires cells { AreCells mesh.now own.now.cells }
     requires vertices { own.now.vertices ≡ vertices_of (length mesh.now.at) own.now.cells }
     requires few { length own.now.cells ≤ 250000 }
@@ -124,12 +130,17 @@ pub fn rank_marks(alloc: Global, mesh: &Mesh, own: &RankCells) -> Result<RankMar
     if mesh.marks() >= TOO_MANY_MARKS {
         return Err(NoMemory);
     }
-    let kept = kept_marks(alloc, mesh, own)?;
+    let kept = kept_marks(rt, alloc, mesh, own)?;
     Ok(kept.finish())
 }
 
 /// The same marks as they are kept. Where the mesh has none, nothing is made to look them up.
-fn kept_marks(alloc: Global, mesh: &Mesh, own: &RankCells) -> Result<MarksBuilder, NoMemory>
+fn kept_marks<R: Threads + Sync>(
+    rt: &R,
+    alloc: Global,
+    mesh: &Mesh,
+    own: &RankCells,
+) -> Result<MarksBuilder, NoMemory>
     requires cells { AreCells mesh.now own.now.cells }
     requires vertices { own.now.vertices ≡ vertices_of (length mesh.now.at) own.now.cells }
     requires few { length own.now.cells ≤ 250000 }
@@ -141,7 +152,7 @@ fn kept_marks(alloc: Global, mesh: &Mesh, own: &RankCells) -> Result<MarksBuilde
     if mesh.marks() == 0 {
         return Ok(kept);
     }
-    let points = OwnPoints::of(alloc, mesh, own)?;
+    let points = OwnPoints::of(rt, alloc, mesh, own)?;
     keep_marks(&mut kept, mesh, own, &points)?;
     Ok(kept)
 }

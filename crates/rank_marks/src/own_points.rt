@@ -4,17 +4,20 @@ ghost use Rattle.std.specs.Prelude.{◌≡◌, ◌<◌, ◌≤◌, length, IfOk}
 ghost use Rattle.std.specs.List.{AllByRecursion};
 ghost use Rattle.mesh_defs.specs.Points.{marked_point};
 ghost use Rattle.mesh_defs.specs.RightMesh.{IsRightMesh, AreCells, in_some};
+ghost use Rattle.local_points.specs.Cells.{AreFit};
+ghost use Rattle.local_points.specs.Points.{local_points};
 ghost use Rattle.plex_mesh.specs.Right.{mark_at};
 ghost use Rattle.seed_laws.specs.Given.{vertices_of};
 ghost use Rattle.rank_marks.specs.Own.{AreTold, AreOwn};
 
 use crate::cell_sets::CellSets;
-use local_points::{CellList, LocalPoints};
+use local_points::{CellList, PointFinder};
 use mesh_defs::Poly;
 use plex_base::{Dim, NoMemory};
 use plex_mesh::Mesh;
 use rank_cells::RankCells;
 use std::alloc::Global;
+use std::thread::Threads;
 
 /// The cells of a rank as a list of cells.
 #[derive(Drop)]
@@ -48,7 +51,7 @@ impl<'a> CellList for OwnCells<'a> {
 pub(crate) struct OwnPoints {
     pub(crate) vertices: Vec<bool>,
     pub(crate) cells: CellSets,
-    pub(crate) between: LocalPoints,
+    pub(crate) between: PointFinder,
 }
 
 /// Of so many numbers whether each is one of these.
@@ -63,9 +66,26 @@ fn told(alloc: Global, numbers: &[u32], count: u32) -> Result<Vec<bool>, NoMemor
     Ok(told)
 }
 
+/// The faces and edges of these cells.
+fn points_between<R: Threads + Sync>(
+    rt: &R,
+    alloc: Global,
+    own: &RankCells,
+) -> Result<PointFinder, NoMemory>
+    requires { AreFit own.now.cells }
+    ensures { IfOk result (λ between. between ≡ local_points own.now.cells) }
+{
+    PointFinder::of(rt, alloc, &OwnCells { own })
+}
+
 impl OwnPoints {
     /// The points of these cells of a mesh.
-    pub(crate) fn of(alloc: Global, mesh: &Mesh, own: &RankCells) -> Result<OwnPoints, NoMemory>
+    pub(crate) fn of<R: Threads + Sync>(
+        rt: &R,
+        alloc: Global,
+        mesh: &Mesh,
+        own: &RankCells,
+    ) -> Result<OwnPoints, NoMemory>
         requires right { IsRightMesh mesh.now }
         requires cells { AreCells mesh.now own.now.cells }
         requires vertices { own.now.vertices ≡ vertices_of (length mesh.now.at) own.now.cells }
@@ -74,7 +94,7 @@ impl OwnPoints {
     {
         let vertices = told(alloc, own.vertices(), mesh.vertices())?;
         let cells = CellSets::of(alloc, own)?;
-        let between = LocalPoints::of(alloc, &OwnCells { own })?;
+        let between = points_between(rt, alloc, own)?;
         Ok(OwnPoints {
             vertices,
             cells,

@@ -1,6 +1,7 @@
 //! What all ranks see, side by side.
 ghost use Rattle.std.specs.Prelude.{◌≡◌, ◌<◌, length, map, Some, IfOk, IfSome};
 ghost use Rattle.std.specs.List.{AllByRecursion};
+ghost use Rattle.std.specs.Thread.{IsSync};
 ghost use Rattle.rank_defs.specs.Spread.{ScatterPart};
 ghost use Rattle.local_points.specs.Cells.{AreFit};
 ghost use Rattle.scatter_state.specs.Whole.{part_at};
@@ -16,18 +17,19 @@ use std::thread::Threads;
 /// The work of each rank: to see the points of its cells. Its item is what it sees, and nothing for want
 /// of memory.
 #[derive(Drop)]
-struct Seeing<'a> {
+struct Seeing<'a, R> {
+    rt: &'a R,
     alloc: Global,
     scatter: &'a Scatter,
 }
 
-impl<'a> RankWork<Option<SeenPoints>> for Seeing<'a> {
-    ghost accepts = { λ work rank seen. (rank < length work.scatter.now.parts) × AreFit (part_at work.scatter.now.parts rank).cells };
+impl<'a, R: Threads + Sync> RankWork<Option<SeenPoints>> for Seeing<'a, R> {
+    ghost accepts = { λ work rank seen. IsSync R.row × (rank < length work.scatter.now.parts) × AreFit (part_at work.scatter.now.parts rank).cells };
 
     ghost changes = { λ work rank before after. IfSome after (λ seen. seen ≡ seen_of (part_at work.scatter.now.parts rank).cells) };
 
     fn step(&self, rank: u32, seen: &mut Option<SeenPoints>) {
-        *seen = see_points(self.alloc, self.scatter.part(rank)).ok();
+        *seen = see_points(self.rt, self.alloc, self.scatter.part(rank)).ok();
     }
 }
 
@@ -45,7 +47,7 @@ pub fn see_all<R: Threads + Sync>(
     ensures { IfOk result (λ seen. seen.items ≡ all_seen scatter.now.parts) }
 {
     let mut slots = empty_slots(alloc, scatter.ranks())?;
-    each_rank(rt, &mut slots, &Seeing { alloc, scatter });
+    each_rank(rt, &mut slots, &Seeing { rt, alloc, scatter });
     filled_slots(alloc, slots)
 }
 

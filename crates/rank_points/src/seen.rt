@@ -8,17 +8,18 @@ ghost use Rattle.rank_points.specs.Seen.{seen_of, IsSmall};
 
 use crate::part_cells::PartCells;
 use crate::sorting::set_on;
-use local_points::LocalPoints;
+use local_points::{LocalPoints, PointFinder};
 use plex_base::NoMemory;
 use scatter_state::RankPart;
 use std::alloc::Global;
 use std::marker::Model;
+use std::thread::Threads;
 
 /// What a rank sees of its cells: their faces and edges, and the vertices of these as sets, by which
 /// ranks find the points that they share.
 #[derive(Drop)]
 pub struct SeenPoints {
-    local: LocalPoints,
+    finder: PointFinder,
     sets: Vec<[u32; 4]>,
 }
 
@@ -27,7 +28,7 @@ impl Model for SeenPoints {
 
     ghost Value = { Seen };
 
-    ghost view = { λ p. record { local = p.local; sets = p.sets.items } };
+    ghost view = { λ p. record { local = p.finder; sets = p.sets.items } };
 }
 
 impl SeenPoints {
@@ -35,7 +36,14 @@ impl SeenPoints {
     pub fn local(&self) -> &LocalPoints
         ensures { result.now ≡ self.now.local }
     {
-        &self.local
+        self.finder.local()
+    }
+
+    /// The faces and edges, as they are found on their vertices.
+    pub fn finder(&self) -> &PointFinder
+        ensures { result.now ≡ self.now.local }
+    {
+        &self.finder
     }
 
     /// The vertices of each face and then of each edge, rising, with 2^32 - 1 behind the last one.
@@ -45,11 +53,11 @@ impl SeenPoints {
         &self.sets
     }
 
-    /// The faces and edges, without their sets. Takes no memory.
+    /// The faces and edges, without what they are found by. Takes no memory.
     pub fn into_local(self) -> LocalPoints
         ensures { result ≡ self.local }
     {
-        self.local
+        self.finder.into_local()
     }
 }
 
@@ -58,13 +66,17 @@ impl SeenPoints {
 ///
 /// The cells are at most 250,000 polygons and solids of vertices below 2^32 - 1. `NoMemory` comes for want
 /// of memory alone.
-pub fn see_points(alloc: Global, part: &RankPart) -> Result<SeenPoints, NoMemory>
+pub fn see_points<R: Threads + Sync>(
+    rt: &R,
+    alloc: Global,
+    part: &RankPart,
+) -> Result<SeenPoints, NoMemory>
     requires { AreFit part.now.cells }
     ensures { IfOk result (λ seen. seen ≡ seen_of part.now.cells) }
 {
-    let local = LocalPoints::of(alloc, &PartCells { part })?;
-    let sets = sets_of(alloc, &local)?;
-    Ok(SeenPoints { local, sets })
+    let finder = PointFinder::of(rt, alloc, &PartCells { part })?;
+    let sets = sets_of(alloc, finder.local())?;
+    Ok(SeenPoints { finder, sets })
 }
 
 /// The sets of the faces and then of the edges.

@@ -38,7 +38,7 @@ fn met<R: Threads + Sync, F: Fabric>(
 {
     let plan = plan_of(alloc, ranks)?;
     plan.fits(mesh.cells()).map_err(|_| Trouble::Words)?;
-    let scatter = seed(alloc, mesh, &plan, fabric)?;
+    let scatter = seed(rt, alloc, mesh, &plan, fabric)?;
     Ok(share(rt, alloc, scatter, fabric)?)
 }
 

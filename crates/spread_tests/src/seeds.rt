@@ -11,16 +11,22 @@ use plex_base::Dim;
 use sf_script::ScriptFabric;
 use std::alloc::Global;
 use std::test::Fail;
+use std::thread::Threads;
 
 /// The first triangle on rank 0, the others on rank 1.
 const APART: &str = "ranks 2\npart 0 1 1\ndofs u 1 0 0 2\n";
 
 /// What ranks are given of the three triangles by a plan, where a script makes these picks.
-fn scatter_of(alloc: Global, plan: &str, picks: &[u32]) -> Result<Scatter, Fail>
+fn scatter_of<R: Threads + Sync>(
+    rt: &R,
+    alloc: Global,
+    plan: &str,
+    picks: &[u32],
+) -> Result<Scatter, Fail>
     ensures { IfOk result (λ s. IsSomeScatter s) }
 {
     let mut fabric = ScriptFabric::new(Vec::from_slice(alloc, picks)?);
-    let scatter = scatter_over(alloc, THREE_TRIANGLES, plan, &mut fabric)?;
+    let scatter = scatter_over(rt, alloc, THREE_TRIANGLES, plan, &mut fabric)?;
     let scatter = scatter.map_err(|_| Fail::from("no memory"))?;
     if fabric.kept().len() != 0 {
         return Err(Fail::from("a round is kept"));
@@ -31,7 +37,7 @@ fn scatter_of(alloc: Global, plan: &str, picks: &[u32]) -> Result<Scatter, Fail>
 #[test]
 fn ranks_are_given_their_cells_and_vertices(rt: HostRuntime) -> Result<(), Fail> {
     for picks in [[].as_slice(), [1, 1, 1, 0, 0].as_slice()] {
-        let s = scatter_of(rt.alloc(), APART, picks)?;
+        let s = scatter_of(&rt, rt.alloc(), APART, picks)?;
         assert_eq!(rt; (s.ranks(), s.whole()), (2, 3));
         assert_eq!(rt; s.cells(0), [0].as_slice());
         assert_eq!(rt; s.cells(1), [1, 2].as_slice());
@@ -49,7 +55,7 @@ fn ranks_are_given_their_cells_and_vertices(rt: HostRuntime) -> Result<(), Fail>
 
 #[test]
 fn ranks_are_given_the_marks_on_their_points(rt: HostRuntime) -> Result<(), Fail> {
-    let s = scatter_of(rt.alloc(), APART, &[])?;
+    let s = scatter_of(&rt, rt.alloc(), APART, &[])?;
     assert_eq!(rt; s.ranks(), 2);
     // Both have the edge (1, 2) and vertex 0; rank 0 alone the edge (0, 1), rank 1 alone vertex 3.
     assert_eq!(rt; (s.marks(0), s.marks(1)), (4, 4));
@@ -81,7 +87,7 @@ fn rows_on(s: &Scatter, rank: u32, f: u32) -> usize
 /// The first section is at vertices, the second one at cells; a vertex has its last row.
 #[test]
 fn ranks_are_given_the_last_rows(rt: HostRuntime) -> Result<(), Fail> {
-    let s = scatter_of(rt.alloc(), APART, &[])?;
+    let s = scatter_of(&rt, rt.alloc(), APART, &[])?;
     assert_eq!(rt; (s.ranks(), s.sections()), (2, 2));
     assert_eq!(rt;
         (s.section(0), s.section(1)),
@@ -98,7 +104,7 @@ fn ranks_are_given_the_last_rows(rt: HostRuntime) -> Result<(), Fail> {
 
 #[test]
 fn ranks_know_the_words_by_dimension(rt: HostRuntime) -> Result<(), Fail> {
-    let s = scatter_of(rt.alloc(), APART, &[])?;
+    let s = scatter_of(&rt, rt.alloc(), APART, &[])?;
     assert_eq!(rt; s.dofs(), 1);
     assert_eq!(rt; s.dof(0), [1, 0, 0, 2]);
     Ok(())

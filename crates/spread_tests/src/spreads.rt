@@ -32,7 +32,8 @@ fn plan_of(alloc: Global, text: &str) -> Result<Plan, Fail> {
 }
 
 /// What ranks are given of a mesh by a plan, where there is memory.
-pub(crate) fn scatter_over<F: Fabric>(
+pub(crate) fn scatter_over<R: Threads + Sync, F: Fabric>(
+    rt: &R,
     alloc: Global,
     file: &str,
     plan: &str,
@@ -44,7 +45,7 @@ pub(crate) fn scatter_over<F: Fabric>(
     let plan = plan_of(alloc, plan)?;
     plan.fits(mesh.cells())
         .map_err(|_| Fail::from("the plan does not fit"))?;
-    Ok(seed(alloc, &mesh, &plan, fabric))
+    Ok(seed(rt, alloc, &mesh, &plan, fabric))
 }
 
 /// The points of ranks, and which of them are the same, where there is memory.
@@ -57,7 +58,7 @@ pub fn shared_over<R: Threads + Sync, F: Fabric>(
 ) -> Result<Result<Shared, NoMemory>, Fail>
     ensures { IfOk result (λ found. IfOk found (λ s. IsSomeShared s)) }
 {
-    match scatter_over(alloc, file, plan, fabric)? {
+    match scatter_over(rt, alloc, file, plan, fabric)? {
         Ok(scatter) => Ok(share(rt, alloc, scatter, fabric)),
         Err(NoMemory) => Ok(Err(NoMemory)),
     }

@@ -14,14 +14,13 @@ use std::test::Fail;
 use std::thread::Threads;
 
 /// The generated mesh of one cube on one rank, which has its diagram, and `None` where it has a twist.
-#[tactic(auto, unfolding(input_defs::specs::Plans::misfit, input_defs::specs::Plans::misfits))]
 fn cube<R: Threads + Sync>(rt: &R, alloc: Global, kind: Kind) -> Result<Option<Dist>, NoMemory>
     ensures { IfOk result (λ cube. IfSome cube (λ dist. 1 ≤ length dist.locals)) }
 {
     let mesh = make(alloc, kind, 1)?;
     let plan = Plan::plain(alloc)?;
     let mut fabric = ScriptFabric::new(Vec::new(alloc));
-    let scatter = seed(alloc, &mesh, &plan, &mut fabric)?;
+    let scatter = seed(rt, alloc, &mesh, &plan, &mut fabric)?;
     let shared = share(rt, alloc, scatter, &mut fabric)?;
     match orient(rt, alloc, shared, &mut fabric) {
         Ok((dist, _)) => {

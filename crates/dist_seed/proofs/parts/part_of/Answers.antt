@@ -12,16 +12,16 @@ use Rattle.dist_seed.proofs.Assembled.{are-cells, few-cells, own-vertices, low-v
 use Rattle.dist_seed.proofs.parts.part_of.Goals as goal
 
 pub rank_marks-requires-clause-cells : goal.rank_marks-requires-clause-cells
-rank_marks-requires-clause-cells c = are-cells c.args.from.now.mesh.now c.args.from.now.ranks.now c.args.rank c.args.own c.requires.held
+rank_marks-requires-clause-cells g c κs within = are-cells c.args.from.now.mesh.now c.args.from.now.ranks.now c.args.rank c.args.own c.requires.held
 
 pub rank_marks-requires-clause-vertices : goal.rank_marks-requires-clause-vertices
-rank_marks-requires-clause-vertices c = own-vertices c.args.from.now.mesh.now c.args.from.now.ranks.now c.args.rank c.args.own c.requires.held
+rank_marks-requires-clause-vertices g c κs within = own-vertices c.args.from.now.mesh.now c.args.from.now.ranks.now c.args.rank c.args.own c.requires.held
 
 pub rank_marks-requires-clause-few : goal.rank_marks-requires-clause-few
-rank_marks-requires-clause-few c = few-cells c.args.from.now.mesh.now c.args.from.now.ranks.now c.args.rank c.args.own c.requires.held c.dim-dim.ensures.right
+rank_marks-requires-clause-few g c κs within = few-cells c.args.from.now.mesh.now c.args.from.now.ranks.now c.args.rank c.args.own c.requires.held c.dim-dim.ensures.right
 
 pub owners_at-requires : goal.owners_at-requires
-owners_at-requires c =
+owners_at-requires g c =
     let m = c.args.from.now.mesh.now in
     let a = c.args.from.now.ranks.now in
     let own = c.args.own in
@@ -30,17 +30,17 @@ owners_at-requires c =
     subst (λ n. AllByRecursion (λ v. v < n) c.deref.result.now) (sym (length-owners m a c.args.from.now.owners.now c.requires.owners)) (subst (AllByRecursion (λ v. v < length m.at)) (sym are) low)
 
 pub coordinates_of-requires : goal.coordinates_of-requires
-coordinates_of-requires c =
+coordinates_of-requires g c =
     let m = c.args.from.now.mesh.now in
     subst (AllByRecursion (λ v. v < length m.at)) (sym (c.deref-2.ensures.value ∙ c.into_lists-lists.ensures.vertices)) (low-vertices m c.args.from.now.ranks.now c.args.rank c.args.own c.requires.held)
 
 pub rows_of-requires-clause-vertices : goal.rows_of-requires-clause-vertices
-rows_of-requires-clause-vertices c =
+rows_of-requires-clause-vertices g c =
     let m = c.args.from.now.mesh.now in
     subst (AllByRecursion (λ v. v < length m.at)) (sym (c.deref-4.ensures.value ∙ c.into_lists-lists.ensures.vertices)) (low-vertices m c.args.from.now.ranks.now c.args.rank c.args.own c.requires.held)
 
 pub rows_of-requires-clause-cells : goal.rows_of-requires-clause-cells
-rows_of-requires-clause-cells c =
+rows_of-requires-clause-cells g c =
     let m = c.args.from.now.mesh.now in
     let a = c.args.from.now.ranks.now in
     let r = c.args.rank in
@@ -49,7 +49,7 @@ rows_of-requires-clause-cells c =
     subst (AllByRecursion (λ n. n < length m.cells)) (sym (c.deref-3.ensures.value ∙ numbers)) (cells-placed m a r)
 
 pub returns : goal.returns
-returns c =
+returns g c =
     let m = c.args.from.now.mesh.now in
     let a = c.args.from.now.ranks.now in
     let r = c.args.rank in

@@ -7,7 +7,7 @@ use Rattle.dist_seed.proofs.Listing.{below-pushed, rest-first, rest-none, image-
 use Rattle.dist_seed.proofs.parts.parts_of.Goals as goal
 
 pub part_of-requires-clause-held : goal.part_of-requires-clause-held
-part_of-requires-clause-held c =
+part_of-requires-clause-held g c κs within =
     let m = c.args.from.now.mesh.now in
     let a = c.args.from.now.ranks.now in
     let held = c.args.held.items in
@@ -18,7 +18,7 @@ part_of-requires-clause-held c =
     image-there (held_of m a) (length held) k held c.in-Some.own c.requires.held first.0 first.1.0 ∙ ap (held_of m a) (sym rank)
 
 pub loop-own-preserved : goal.loop-own-preserved
-loop-own-preserved c =
+loop-own-preserved g c =
     let m = c.args.from.now.mesh.now in
     let a = c.args.from.now.ranks.now in
     let held = c.args.held.items in
@@ -36,7 +36,7 @@ loop-own-preserved c =
     }
 
 pub returns : goal.returns
-returns c =
+returns g c =
     let m = c.args.from.now.mesh.now in
     let a = c.args.from.now.ranks.now in
     let held = c.args.held.items in

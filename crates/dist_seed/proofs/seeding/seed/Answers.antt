@@ -30,7 +30,7 @@ vertex_owners-requires-clause-held g c =
     record { each = c.deref-3.ensures.value ∙ are ∙ sym (λ i. map (held_of m (c.deref-2.ensures.value i)) (below (size i))) }
 
 pub parts_of-requires-clause-few : goal.parts_of-requires-clause-few
-parts_of-requires-clause-few g c =
+parts_of-requires-clause-few g c κs within =
     let m = c.args.mesh.now in
     let n = c.args.plan.now.plan.ranks in
     let a = c.in_ok-ranks.ranks.items in
@@ -40,7 +40,7 @@ parts_of-requires-clause-few g c =
     omega (arith, count, c.ranks.ensures.ranks, c.ranks.ensures.few)
 
 pub parts_of-requires-clause-held : goal.parts_of-requires-clause-held
-parts_of-requires-clause-held g c =
+parts_of-requires-clause-held g c κs within =
     let m = c.args.mesh.now in
     let n = c.args.plan.now.plan.ranks in
     let a = c.in_ok-ranks.ranks.items in

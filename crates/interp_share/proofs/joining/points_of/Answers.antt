@@ -22,7 +22,7 @@ part_labels-requires-clause-given c =
 pub part_labels-requires-clause-local : goal.part_labels-requires-clause-local
 part_labels-requires-clause-local c =
     let part = part_at c.args.scatter.now.parts c.args.rank in
-    c.local.ensures ∙ local-seen c.args.seen part.cells c.requires.seen ∙ ap (λ (p : ScatterPart). local_points p.cells) (sym c.part-part.ensures.part)
+    c.finder.ensures ∙ local-seen c.args.seen part.cells c.requires.seen ∙ ap (λ (p : ScatterPart). local_points p.cells) (sym c.part-part.ensures.part)
 
 pub point_sets-requires-clause-cells : goal.point_sets-requires-clause-cells
 point_sets-requires-clause-cells c =

@@ -14,14 +14,14 @@ use Rattle.local_points.proofs.edges.join_edges.Goals as goal
 pub number-requires-clause-few : goal.number-requires-clause-few
 number-requires-clause-few g c =
     let cells = g.C.CellList.cells c.args.cells.now in
-    let seen = c.in_ok-seen.seen.edges.items in
-    omega (arith, ap length c.deref.ensures.value, length-map seen edge_sight_of, ap length c.in_ok-seen.ensures.edges, length-edges_seen cells, c.requires.few)
+    let seen = c.in_ok-seen.seen.items in
+    omega (arith, ap length c.deref.ensures.value, length-map seen edge_sight_of, ap length c.in_ok-seen.ensures, length-edges_seen cells, c.requires.few)
 
 pub returns-clause-places : goal.returns-clause-places
 returns-clause-places g c =
     let cells = g.C.CellList.cells c.args.cells.now in
-    let seen : map edge_sight_of c.deref.result.now ≡ edges_seen cells = ap (map edge_sight_of) c.deref.ensures.value ∙ c.in_ok-seen.ensures.edges in
+    let seen : map edge_sight_of c.deref.result.now ≡ edges_seen cells = ap (map edge_sight_of) c.deref.ensures.value ∙ c.in_ok-seen.ensures in
     let table : c.number.new.self ≡ edges_among cells = c.in_ok-places.ensures.edges ∙ ap firsts seen in
     let places : c.in_ok-places.places.items ≡ places_in (edges_among cells) (edges_seen cells) = c.in_ok-places.ensures.places ∙ (λ i. places_in (table i) (seen i)) in
-    c.new.ensures ∙ (λ i. rows (places i) (c.in_ok-seen.ensures.firsts i))
+    c.new.ensures ∙ (λ i. rows (places i) (c.in_ok-firsts.ensures i))
     ∙ rows-of_cells (λ (d : ℕ × Cell). cell_edges d.0 d.1) (λ s. place_in (edges_among cells) (point_of s)) cells

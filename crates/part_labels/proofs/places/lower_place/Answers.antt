@@ -143,7 +143,7 @@ returns-in_ok-k-in-One c =
     let place = some-same c.in_ok-k-in-One.k (place_in (edges_among c.args.part.now.cells) (marked_point k)) c.find_edge.result c.in_ok-k-in-One.was found in
     let cells = cell-count c.args.part.now c.cells.result.now c.cells.ensures.cells in
     let vertices = ap length c.vertices.ensures in
-    let faces : c.faces.result ≡ length (faces_among c.args.part.now.cells) = c.faces.ensures.count ∙ ap (λ (l : Local). length l.faces) c.requires.local in
+    let faces : c.faces.result ≡ length (faces_among c.args.part.now.cells) = c.faces.ensures.count ∙ ap (λ (l : Local). length l.faces) (c.local.ensures ∙ c.requires.local) in
     ap (λ (q : ℕ). Some q) ((λ j. cells j + vertices j + faces j + place j) ∙ sym v.place)
 
 pub returns-in_err-find_face-in_default : goal.returns-in_err-find_face-in_default

@@ -3,7 +3,7 @@ use Rattle.std.specs.Prelude.{position}
 use Rattle.plain_lists.specs.Lists.{same_set}
 use Rattle.mesh_defs.specs.Tables.{dim_of}
 use Rattle.mesh_defs.specs.Mesh.{Cell, Mark}
-use Rattle.point_labels.specs.Sets.{IsShort}
+use Rattle.mark_laws.specs.Sets.{IsShort}
 use Rattle.scatter_state.specs.Parts.{mark_at}
 use Rattle.part_labels.proofs.Given.{mark-cell, first-dim}
 use Rattle.part_labels.proofs.Standing.{on-own_cell}

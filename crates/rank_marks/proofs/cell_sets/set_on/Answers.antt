@@ -2,7 +2,7 @@ use Rattle.std.proofs.Common.{◌≡◌, ◌≤◌, List, ◌++◌, ℕ, length,
 use Rattle.std.proofs.lemmas.List.{drop-replicate}
 use Rattle.plain_lists.specs.Lists.{sorted}
 use Rattle.place_laws.proofs.Sorting.{sorted-unique}
-use Rattle.point_labels.specs.Sets.{no_vertex, filled}
+use Rattle.mark_laws.specs.Sets.{no_vertex, filled}
 use Rattle.rank_marks.proofs.cell_sets.set_on.Goals as goal
 
 -- vertices put over the first of eight numbers

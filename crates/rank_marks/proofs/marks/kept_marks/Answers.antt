@@ -9,4 +9,4 @@ use Rattle.rank_marks.proofs.marks.kept_marks.Goals as goal
 
 pub returns-then-marks-eq0 : goal.returns-then-marks-eq0
 unfolding marks_on_cells
-returns-then-marks-eq0 c = c.in_ok-kept.ensures ∙ sym (ap (filter (λ (k : Mark). in_some (marked_point k) c.args.own.now.cells)) (nil_from_length c.args.mesh.now.marks (sym c.marks.ensures ∙ c.if-marks-eq0.true)))
+returns-then-marks-eq0 g c = c.in_ok-kept.ensures ∙ sym (ap (filter (λ (k : Mark). in_some (marked_point k) c.args.own.now.cells)) (nil_from_length c.args.mesh.now.marks (sym c.marks.ensures ∙ c.if-marks-eq0.true)))

@@ -9,7 +9,7 @@ use Rattle.rank_marks.proofs.marks.rank_marks.Goals as goal
 
 pub returns-clause-few : goal.returns-clause-few
 unfolding marks_on_cells
-returns-clause-few c =
+returns-clause-few g c =
     let heads = c.finish.result.heads.items in
     let count = length-marks_of heads c.finish.result.vertices c.finish.ensures.full in
     let kept = ap length (c.finish.ensures.marks ∙ c.in_ok-kept.ensures) in

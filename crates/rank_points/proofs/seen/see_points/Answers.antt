@@ -7,10 +7,10 @@ use Rattle.rank_points.proofs.Small.{faces-small}
 use Rattle.rank_points.proofs.seen.see_points.Goals as goal
 
 pub sets_of-requires : goal.sets_of-requires
-sets_of-requires c = subst (λ (l : Local). AllByRecursion IsSmall l.faces) (sym c.in_ok-local.ensures) (faces-small c.args.part.now.cells)
+sets_of-requires g c = subst (λ (l : Local). AllByRecursion IsSmall l.faces) (sym (c.local.ensures ∙ c.in_ok-finder.ensures)) (faces-small c.args.part.now.cells)
 
 pub returns : goal.returns
 unfolding seen_of
-returns c =
-    let local : c.in_ok-local.local ≡ local_points c.args.part.now.cells = c.in_ok-local.ensures in
-    λ i. record { local = local i; sets = (c.in_ok-sets.ensures ∙ ap (λ (l : Local). map set_of (l.faces ++ l.edges)) local) i }
+returns g c =
+    let finder : c.in_ok-finder.finder ≡ local_points c.args.part.now.cells = c.in_ok-finder.ensures in
+    λ i. record { local = finder i; sets = (c.in_ok-sets.ensures ∙ ap (λ (l : Local). map set_of (l.faces ++ l.edges)) (c.local.ensures ∙ finder)) i }

@@ -3,7 +3,7 @@ use Rattle.std.proofs.lemmas.List.{length-map, length-take, map_more}
 use Rattle.mesh_defs.specs.Points.{Sight, point_of}
 use Rattle.mesh_defs.specs.Diagram.{firsts, place_in}
 use Rattle.mesh_laws.proofs.Firsts.{firsts-length}
-use Rattle.local_points.specs.declared.edges.Edge.{Edge}
+use Rattle.local_points.specs.declared.seen_edges.Edge.{Edge}
 use Rattle.local_points.specs.Points.{with_sight, places_in}
 use Rattle.local_points.specs.Stored.{edge_sight_of}
 use Rattle.local_points.proofs.Places.{firsts-with_sight, places-push}

@@ -1,7 +1,7 @@
 use Rattle.std.proofs.Common.{List, map, sym, ap, ◌∙◌, [], ◌∷◌, ◌++◌}
 use Rattle.mesh_defs.specs.Diagram.{place_in}
 use Rattle.mesh_defs.specs.Points.{Sight, point_of}
-use Rattle.local_points.specs.declared.edges.Edge.{Edge}
+use Rattle.local_points.specs.declared.seen_edges.Edge.{Edge}
 use Rattle.local_points.specs.Stored.{edge_sight_of, edge_set}
 use Rattle.local_points.proofs.Places.{table-place, table-new, table-known}
 use Rattle.local_points.proofs.Ends.{edges-tell}

@@ -1,7 +1,7 @@
 use Rattle.std.proofs.Common.{List, map, sym, ap, ◌∙◌, [], ◌∷◌, ◌++◌}
 use Rattle.mesh_defs.specs.Diagram.{place_in}
 use Rattle.mesh_defs.specs.Points.{Sight, point_of}
-use Rattle.local_points.specs.declared.faces.Face.{Face}
+use Rattle.local_points.specs.declared.seen_faces.Face.{Face}
 use Rattle.local_points.specs.Stored.{face_sight_of, face_set}
 use Rattle.local_points.proofs.Places.{table-place, table-new, table-known}
 use Rattle.local_points.proofs.Padding.{faces-tell}

@@ -5,7 +5,7 @@ use Rattle.std.proofs.lemmas.List.{map_more, length-map}
 use Rattle.plain_lists.specs.Lists.{same_list}
 use Rattle.plain_lists.proofs.Each.{all_at}
 use Rattle.mesh_defs.specs.Mesh.{Cell}
-use Rattle.point_labels.specs.Sets.{filled, IsShort}
+use Rattle.mark_laws.specs.Sets.{filled, IsShort}
 use Rattle.scatter_state.specs.Parts.{cell_at, number_of}
 use Rattle.part_labels.specs.Sets.{set_of}
 use Rattle.part_labels.proofs.Given.{short-cells}

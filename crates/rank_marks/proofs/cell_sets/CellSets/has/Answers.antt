@@ -2,7 +2,7 @@ use Rattle.std.proofs.Common.{ap, ◌∙◌}
 use Rattle.std.specs.Prelude.{position, is_some}
 use Rattle.plain_lists.specs.Lists.{same_list}
 use Rattle.rank_marks.proofs.Sets.{position-any, sets-on}
-use Rattle.point_labels.specs.Sets.{filled}
+use Rattle.mark_laws.specs.Sets.{filled}
 use Rattle.rank_marks.proofs.cell_sets.CellSets.has.Goals as goal
 
 pub set_on-requires : goal.set_on-requires

@@ -2,7 +2,7 @@ use Rattle.std.proofs.Common.{◌<◌, ℕ, [], length, ap, sym, subst, ◌∙�
 use Rattle.std.proofs.lemmas.List.{get_or_default}
 use Rattle.mesh_defs.specs.Mesh.{Cell}
 use Rattle.plain_lists.proofs.Each.{all_at}
-use Rattle.point_labels.specs.Sets.{filled, IsShort}
+use Rattle.mark_laws.specs.Sets.{filled, IsShort}
 use Rattle.scatter_state.specs.Parts.{cell_at}
 use Rattle.rank_marks.specs.Own.{HasSets}
 use Rattle.rank_marks.proofs.Sets.{sets-none, sets-more, sets-all}

@@ -10,7 +10,7 @@ use Rattle.plex_base.specs.Dim.{dim_number}
 use Rattle.plex_base.specs.declared.dim.Dim.{Dim}
 use Rattle.plex_base.specs.declared.dim.Dim.TheVariants.{Zero, One, Two, Three}
 use Rattle.plex_mesh.specs.Right.{mark_at}
-use Rattle.point_labels.specs.Sets.{IsShort}
+use Rattle.mark_laws.specs.Sets.{IsShort}
 use Rattle.seed_laws.specs.Given.{vertices_of}
 use Rattle.rank_marks.specs.Own.{some_on}
 use Rattle.rank_marks.proofs.Marked.{short-cells, short-mark, marked-cell, one-vertex, low-vertex, marked-vertex, two-vertices, marked-edge, marked-face, no-solid, mark-on}
