@@ -34,7 +34,7 @@ pub(crate) fn drawings<R: Threads + Sync, F: Fabric>(
     ensures kept { F.kept fabric.new ≡ F.kept fabric.old }
 {
     let arranged = arrangements(alloc, shared, keys, fabric)?;
-    draw_all(rt, alloc, shared, keys, &arranged)
+    draw_all(rt, alloc, shared, keys, arranged)
 }
 
 /// The least of the ranks' own twists, and `None` where each of them drew its diagram.

@@ -69,7 +69,7 @@ fn drawings_of<R: Threads + Sync>(
     let shared = shared_of(rt, alloc, file, plan)?;
     let mut fabric = ScriptFabric::new(Vec::new(alloc));
     let (keys, all) = told(alloc, &shared, &mut fabric)?;
-    Ok(draw_all(rt, alloc, &shared, &keys, &all)?)
+    Ok(draw_all(rt, alloc, &shared, &keys, all)?)
 }
 
 /// A rank of the two triangles holds these edges, by key, and draws what it is to hold.

@@ -21,7 +21,8 @@ use Rattle.key_laws.proofs.Stands as stands
 use Rattle.arrangement_laws.specs.Arrangements.{arrangements_on, own_arrangements}
 use Rattle.plex_base.specs.declared.dim.Dim.{Dim}
 use Rattle.plex_base.specs.Dim.{dim_number}
-use Rattle.rank_drawings.specs.Told.{PlainDrawing, IsDimOf, AreTold, IsDrawing, AreDrawings}
+use Rattle.rank_drawings.specs.Told.{PlainDrawing, IsDimOf, AreTold, IsTold, IsDrawing, AreDrawings}
+use Rattle.rank_drawings.specs.declared.desks.Desk.{Desk}
 use Rattle.rank_drawings.proofs.Known.{sounds}
 
 -- some rank has a cell of a mesh that has one
@@ -61,35 +62,51 @@ module _ (s : PlainShared) (m : Mesh) (dofs : List (List ℕ)) (a : List ℕ) (n
   pub dim-found : (r : ℕ) (dim : Dim) → r < length s.parts → IsDimOf (shared_at s.parts r).cells (Some dim) → dim_number dim ≡ m.dim
   dim-found r dim low found = found.1 ∙ dim-of_cell r (omega (arith, low, ranks-are)) found.0
 
-module _ (s : PlainShared) (keys : List (List ℕ)) (arrangements : List (List (List ℕ))) (m : Mesh) (dofs : List (List ℕ)) (a : List ℕ) (n : ℕ) (are : AreTold s keys arrangements m dofs a n) where
+-- the keys of a rank
+module _ (keys : List (List ℕ)) (m : Mesh) (a : List ℕ) (n : ℕ) (are : keys ≡ own_point_keys m a n) where
   pub keys-many : length keys ≡ n
   unfolding own_point_keys
-  keys-many = ap length are.keys_are ∙ length-map (below n) (keys_on m a) ∙ length-below n
+  keys-many = ap length are ∙ length-map (below n) (keys_on m a) ∙ length-below n
 
   pub keys-at : (r : ℕ) → r < n → get_or keys r [] ≡ keys_on m a r
   unfolding own_point_keys
-  keys-at r low = ap (λ ks. get_or ks r []) are.keys_are ∙ get_or-map-below (keys_on m a) n r [] low
+  keys-at r low = ap (λ ks. get_or ks r []) are ∙ get_or-map-below (keys_on m a) n r [] low
 
-  pub arrangements-many : length arrangements ≡ n
+-- the desks on which the arrangements of the ranks lie
+module _ (s : PlainShared) (keys : List (List ℕ)) (desks : List Desk) (arrangements : List (List (List ℕ))) (lie : map (λ (d : Desk). d.arrangements.items) desks ≡ arrangements) (m : Mesh) (dofs : List (List ℕ)) (a : List ℕ) (n : ℕ) (are : AreTold s keys arrangements m dofs a n) where
+  pub desks-many : length desks ≡ n
   unfolding own_arrangements
-  arrangements-many = ap length are.arrangements_are ∙ length-map (below n) (arrangements_on m a) ∙ length-below n
+  desks-many = sym (length-map desks (λ (d : Desk). d.arrangements.items)) ∙ ap length (lie ∙ are.arrangements_are) ∙ length-map (below n) (arrangements_on m a) ∙ length-below n
 
-  pub arrangements-at : (r : ℕ) → r < n → get_or arrangements r [] ≡ arrangements_on m a r
+  -- each rank knows its own
+  pub told-at : (r : ℕ) (d : Desk) → r < n → IsTold s keys (get_or desks r d).arrangements.items m dofs a n r
   unfolding own_arrangements
-  arrangements-at r low = ap (λ ls. get_or ls r []) are.arrangements_are ∙ get_or-map-below (arrangements_on m a) n r [] low
+  told-at r d low = record {
+    shared = are.shared;
+    keys_are = are.keys_are;
+    inside = low;
+    own_are = sym (get_or-map (λ (d : Desk). d.arrangements.items) desks r d [] (omega (arith, low, desks-many))) ∙ ap (λ ls. get_or ls r []) (lie ∙ are.arrangements_are) ∙ get_or-map-below (arrangements_on m a) n r [] low;
+  }
 
--- where each slot is filled with the rank's drawing, these are the drawings
-pub all-drawn : (m : Mesh) (a : List ℕ) (n : ℕ) (slots : List (Option PlainDrawing)) (drawings : List PlainDrawing) → length slots ≡ n → ((r : ℕ) (d : Option PlainDrawing) → r < length slots → IfSome (get_or slots r d) (IsDrawing m a r)) → slots ≡ map Some drawings → AreDrawings m a n drawings
-all-drawn m a n slots drawings count each filled =
-    let many : length slots ≡ length drawings = ap length filled ∙ length-map drawings Some in
+-- some element of a list that has one
+some-of : {X : Type 0} (xs : List X) (k : ℕ) → k < length xs → X
+some-of [] k low = absurd (omega (arith, low))
+some-of (x ∷ xs) k low = x
+
+-- where the rank's drawing is on each desk, these are the drawings
+pub all-drawn : (m : Mesh) (a : List ℕ) (n : ℕ) (desks : List Desk) (drawings : List PlainDrawing) → length desks ≡ n → ((r : ℕ) (d : Desk) → r < length desks → IfSome (get_or desks r d).drawing (IsDrawing m a r)) → map (λ (d : Desk). d.drawing) desks ≡ map Some drawings → AreDrawings m a n drawings
+all-drawn m a n desks drawings count each filled =
+    let many : length desks ≡ length drawings = sym (length-map desks (λ (d : Desk). d.drawing)) ∙ ap length filled ∙ length-map drawings Some in
     record {
       count = sym many ∙ count;
-      each = λ r d low.
-          let there : get_or slots r (Some d) ≡ Some (get_or drawings r d) = ap (λ l. get_or l r (Some d)) filled ∙ get_or-map Some drawings r d (Some d) (omega (arith, low, many, count)) in
-          subst (λ o. IfSome o (IsDrawing m a r)) there (each r (Some d) (omega (arith, low, count)));
+      each = λ r e low.
+          let inside : r < length desks = omega (arith, low, count) in
+          let d : Desk = some-of desks r inside in
+          let there : (get_or desks r d).drawing ≡ Some (get_or drawings r e) = sym (get_or-map (λ (d : Desk). d.drawing) desks r d (Some e) inside) ∙ ap (λ l. get_or l r (Some e)) filled ∙ get_or-map Some drawings r e (Some e) (omega (arith, inside, many)) in
+          subst (λ o. IfSome o (IsDrawing m a r)) there (each r d inside);
     }
 
--- what follows for what is in a slot
+-- what follows for what may be there
 pub some-weaker : {X : Type 0} (P Q : X → Type 0) (o : Option X) → ((x : X) → P x → Q x) → IfSome o P → IfSome o Q
 some-weaker P Q None f h = h
 some-weaker P Q (Some x) f h = f x h

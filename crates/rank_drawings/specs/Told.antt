@@ -8,7 +8,7 @@ use Rattle.scatter_state.specs.Parts.{cell_at}
 use Rattle.rank_defs.specs.Ranks.{assigned}
 use Rattle.rank_defs.specs.Spread.{PlainShared, IsShared}
 use Rattle.key_laws.specs.Keys.{own_point_keys}
-use Rattle.arrangement_laws.specs.Arrangements.{own_arrangements}
+use Rattle.arrangement_laws.specs.Arrangements.{arrangements_on, own_arrangements}
 use Rattle.held_points.specs.Held.{Held, held_of}
 use Rattle.rank_cones.specs.declared.drawn.Drawn.{Drawn}
 use Rattle.rank_cones.specs.Ranks.{Draws}
@@ -29,11 +29,21 @@ pub record AreOfSomeMesh (s : PlainShared) (keys : List (List ℕ)) (arrangement
   pub n : ℕ
   pub are : AreTold s keys arrangements m dofs a n
 
--- the same, of this dimension, and the rank is one of theirs
-pub record MayDraw (dim : ℕ) (s : PlainShared) (keys : List (List ℕ)) (arrangements : List (List (List ℕ))) (rank : ℕ) : Type 0 where
-  pub some : AreOfSomeMesh s keys arrangements
-  pub dim_is : dim ≡ some.m.dim
-  pub inside : rank < some.n
+-- rank r of n, which knows all keys and its own arrangements
+pub record IsTold (s : PlainShared) (keys : List (List ℕ)) (own : List (List ℕ)) (m : Mesh) (dofs : List (List ℕ)) (a : List ℕ) (n r : ℕ) : Type 0 where
+  pub shared : IsShared s m dofs a n
+  pub keys_are : keys ≡ own_point_keys m a n
+  pub inside : r < n
+  pub own_are : own ≡ arrangements_on m a r
+
+-- a rank of some mesh of this dimension
+pub record MayDraw (dim : ℕ) (s : PlainShared) (keys : List (List ℕ)) (own : List (List ℕ)) (r : ℕ) : Type 0 where
+  pub m : Mesh
+  pub dofs : List (List ℕ)
+  pub a : List ℕ
+  pub n : ℕ
+  pub told : IsTold s keys own m dofs a n r
+  pub dim_is : dim ≡ m.dim
 
 -- the dimension of the first of some cells, and none where there are no cells
 abbrev pub IsDimOf : List (ℕ × Cell) → Option Dim → Type 0

@@ -1,10 +1,10 @@
 //! What one rank draws.
 
-ghost use Rattle.std.specs.Prelude.{◌≡◌, ◌<◌, ℕ, List, IfOk};
+ghost use Rattle.std.specs.Prelude.{◌≡◌, ℕ, List, IfOk};
 ghost use Rattle.plain_lists.specs.Vectors.{lists_of};
 ghost use Rattle.mesh_defs.specs.Mesh.{Mesh};
 ghost use Rattle.plex_base.specs.Dim.{dim_number};
-ghost use Rattle.rank_drawings.specs.Told.{AreTold, MayDraw, IsDrawing};
+ghost use Rattle.rank_drawings.specs.Told.{IsTold, MayDraw, IsDrawing};
 
 use crate::cells::RankCells;
 use held_points::{HeldPoints, held_points};
@@ -52,22 +52,24 @@ impl Drawing {
     }
 }
 
-/// What a rank draws: it puts its points in the order of their keys and makes its diagram.
+/// What a rank draws: it puts its points in the order of their keys, and makes its diagram once it has
+/// given back the memory of their arrangements.
 pub(crate) fn draw_rank(
     alloc: Global,
     dim: Dim,
     shared: &Shared,
     keys: &[Vec<u64>],
-    arrangements: &[Vec<[u32; 4]>],
+    arrangements: Vec<[u32; 4]>,
     rank: u32,
 ) -> Result<Drawing, NoMemory>
-    requires { MayDraw (dim_number dim) shared.now (lists_of keys.now) (lists_of arrangements.now) rank }
-    ensures { IfOk result (λ drawing. (m : Mesh) (dofs : List (List ℕ)) (a : List ℕ) (n : ℕ) → AreTold shared.now (lists_of keys.now) (lists_of arrangements.now) m dofs a n → dim_number dim ≡ m.dim → rank < n → IsDrawing m a rank drawing) }
+    requires { MayDraw (dim_number dim) shared.now (lists_of keys.now) arrangements.items rank }
+    ensures { IfOk result (λ drawing. (m : Mesh) (dofs : List (List ℕ)) (a : List ℕ) (n : ℕ) → IsTold shared.now (lists_of keys.now) arrangements.items m dofs a n rank → dim_number dim ≡ m.dim → IsDrawing m a rank drawing) }
 {
     let (vertices, local) = (shared.vertices(rank), shared.local(rank));
     let first = shared.cells(rank).len() + vertices.len();
     let (_, lower_keys) = keys[rank as usize].split_at(first);
-    let held = held_points(alloc, local, lower_keys, &arrangements[rank as usize])?;
+    let held = held_points(alloc, local, lower_keys, &arrangements)?;
+    drop(arrangements);
     let cells = RankCells { shared, rank };
     let drawn = rank_plex(alloc, dim, &cells, vertices, local, &held)?;
     Ok(Drawing { held, drawn })

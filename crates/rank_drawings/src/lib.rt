@@ -5,6 +5,7 @@
 #![tactic(auto)]
 
 mod cells;
+mod desks;
 mod dimension;
 mod drawing;
 mod ranks;
