@@ -1,12 +1,13 @@
 -- What ranks know of their points once they have met, for each mesh that a scatter stands for.
-use Rattle.std.specs.Prelude.{◌≡◌, ℕ, List, map}
+use Rattle.std.specs.Prelude.{◌≡◌, ℕ, ◌<◌, List, map, length, get_or, Option, IfSome}
 use Rattle.plain_lists.specs.Lists.{below}
 use Rattle.mesh_defs.specs.Mesh.{Mesh}
 use Rattle.plex_defs.specs.Fields.{fields}
 use Rattle.rank_defs.specs.Ranks.{assigned}
 use Rattle.rank_defs.specs.Spread.{PlainScatter, IsScatter, own_chart, labels}
 use Rattle.local_points.specs.Points.{local_points}
-use Rattle.rank_points.specs.Seen.{sets_on}
+use Rattle.scatter_state.specs.Whole.{part_at}
+use Rattle.rank_points.specs.Seen.{sets_on, part_sets}
 use Rattle.shared_state.specs.Points.{PointData}
 
 -- what rank r knows: its faces and edges, and the sets, labels and words of the points of its own chart
@@ -30,3 +31,8 @@ pub record AreFields (s : PlainScatter) (r : ℕ) (words : List (List (List ℕ)
 -- of the points of all ranks
 pub record AreAllFields (s : PlainScatter) (words : List (List (List (List ℕ)))) : Type 0 where
   pub are : (m : Mesh) (dofs : List (List ℕ)) (a : List ℕ) (n : ℕ) → IsScatter s m dofs a n → words ≡ map (λ r. fields m dofs (own_chart m (assigned m a r))) (below n)
+
+-- the vertices of each rank's points, where the rank found memory for them
+pub record AreListed (s : PlainScatter) (sets : List (Option (List (List ℕ)))) : Type 0 where
+  pub many : length sets ≡ length s.parts
+  pub are : (r : ℕ) (d : Option (List (List ℕ))) → r < length s.parts → IfSome (get_or sets r d) (λ own. own ≡ part_sets (part_at s.parts r))

@@ -3,6 +3,7 @@
 #![tactic(auto)]
 
 mod joining;
+mod listing;
 mod locals;
 mod sharing;
 

@@ -4,6 +4,7 @@ ghost use Rattle.mesh_defs.specs.Mesh.{Mesh};
 ghost use Rattle.rank_defs.specs.Spread.{IsScatter, IsShared};
 
 use crate::joining::all_points;
+use crate::listing::list_all;
 use crate::locals::SeenLocals;
 use part_fields::all_fields;
 use plex_base::NoMemory;
@@ -21,9 +22,9 @@ const MOST_FIELDS: u64 = 4_294_967_295;
 /// the forest of shared points, which ranks find at the owner of a vertex: the first half of
 /// `DMPlexInterpolate` on a distributed `DMPlex`, with its point SF.
 ///
-/// `s` stands for some mesh, counts of words and assignment. The ranks see their points side by side. No
-/// round is kept. `NoMemory` comes for want of memory, and where data sections and counts of words are 2^32
-/// or more together, for which memory can't be had; `s` is then gone.
+/// `s` stands for some mesh, counts of words and assignment. The ranks see their points, and list the
+/// vertices of these, side by side. No round is kept. `NoMemory` comes for want of memory, and where data
+/// sections and counts of words are 2^32 or more together, for which memory can't be had; `s` is then gone.
 pub fn share<R: Threads + Sync, F: Fabric>(
     rt: &R,
     alloc: Global,
@@ -40,6 +41,7 @@ pub fn share<R: Threads + Sync, F: Fabric>(
     let seen = see_all(rt, alloc, &s)?;
     let forest = mesh_forest(alloc, &s, &seen, fabric)?;
     let fields = all_fields(alloc, &s, &SeenLocals { seen: &seen }, &forest, fabric)?;
-    let points = all_points(alloc, &s, seen, fields)?;
+    let sets = list_all(rt, alloc, &s, &seen)?;
+    let points = all_points(alloc, &s, seen, sets, fields)?;
     Ok(Shared::of(s, points, forest))
 }

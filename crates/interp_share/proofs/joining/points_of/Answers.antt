@@ -2,16 +2,14 @@ use Rattle.std.proofs.Common.{◌≡◌, ℕ, ◌^◌, ◌<◌, List, length, sy
 use Rattle.std.specs.List.{AllByRecursion}
 use Rattle.plain_lists.proofs.Each.{all_weaker}
 use Rattle.plex_defs.specs.Fields.{fields}
-use Rattle.local_points.specs.Cells.{AreFit}
 use Rattle.local_points.specs.Points.{local_points}
 use Rattle.rank_defs.specs.Ranks.{assigned}
 use Rattle.rank_defs.specs.Spread.{ScatterPart, own_chart}
 use Rattle.scatter_state.specs.Whole.{part_at}
 use Rattle.part_labels.specs.Parts.{IsPartOf, IsSomePart}
-use Rattle.rank_points.specs.Seen.{seen_of, part_sets}
 use Rattle.rank_points.proofs.Pushing.{local-seen}
 use Rattle.interp_share.specs.Known.{known}
-use Rattle.interp_share.proofs.Ranked.{is-part, some-part, part-fit, local-is, sets-are, sets-count, sets-few, four-labels, words-all}
+use Rattle.interp_share.proofs.Ranked.{is-part, some-part, local-is, sets-are, sets-count, sets-few, four-labels, words-all}
 use Rattle.interp_share.proofs.joining.points_of.Goals as goal
 
 pub part_labels-requires-clause-given : goal.part_labels-requires-clause-given
@@ -24,28 +22,19 @@ part_labels-requires-clause-local c =
     let part = part_at c.args.scatter.now.parts c.args.rank in
     c.finder.ensures ∙ local-seen c.args.seen part.cells c.requires.seen ∙ ap (λ (p : ScatterPart). local_points p.cells) (sym c.part-part.ensures.part)
 
-pub point_sets-requires-clause-cells : goal.point_sets-requires-clause-cells
-point_sets-requires-clause-cells c =
-    let (m, dofs, a, n, is) = c.requires.some in
-    subst (λ (p : ScatterPart). AreFit p.cells) (sym c.part-part.ensures.part) (part-fit c.args.scatter.now m dofs a n is c.args.rank c.requires.rank)
-
-pub point_sets-requires-clause-seen : goal.point_sets-requires-clause-seen
-point_sets-requires-clause-seen c = c.requires.seen ∙ ap (λ (p : ScatterPart). seen_of p.cells) (sym c.part-part.ensures.part)
-
 pub of-requires : goal.of-requires
 of-requires c =
     let s = c.args.scatter.now in
     let r = c.args.rank in
     let (m, dofs, a, n, is) = c.requires.some in
     let points = own_chart m (assigned m a r) in
-    let sets : c.in_ok-sets.sets ≡ part_sets (part_at s.parts r) = c.in_ok-sets.ensures ∙ ap part_sets c.part-part.ensures.part in
     let labels = c.in_ok-labels.ensures m a n r (subst (λ p. IsPartOf p m a n r) (sym c.part-part.ensures.part) (is-part s m dofs a n is r c.requires.rank)) in
-    let count : length c.in_ok-sets.sets ≡ length points = ap length sets ∙ sets-count s m dofs a n is r c.requires.rank in
+    let count : length c.args.sets ≡ length points = ap length c.requires.sets ∙ sets-count s m dofs a n is r c.requires.rank in
     record {
-      few_points = subst (λ l. length l < 2 ^ 32) (sym sets) (sets-few s m dofs a n is r c.requires.rank);
+      few_points = subst (λ l. length l < 2 ^ 32) (sym c.requires.sets) (sets-few s m dofs a n is r c.requires.rank);
       labels = ap length labels ∙ four-labels m points;
-      fields = subst (AllByRecursion (λ (f : List (List ℕ)). length f ≡ length c.in_ok-sets.sets)) (sym (c.requires.fields.are m dofs a n is))
-          (all_weaker (λ (f : List (List ℕ)). length f ≡ length points) (λ (f : List (List ℕ)). length f ≡ length c.in_ok-sets.sets) (λ f e. e ∙ sym count) (fields m dofs points) (words-all m dofs points));
+      fields = subst (AllByRecursion (λ (f : List (List ℕ)). length f ≡ length c.args.sets)) (sym (c.requires.fields.are m dofs a n is))
+          (all_weaker (λ (f : List (List ℕ)). length f ≡ length points) (λ (f : List (List ℕ)). length f ≡ length c.args.sets) (λ f e. e ∙ sym count) (fields m dofs points) (words-all m dofs points));
     }
 
 pub returns : goal.returns
@@ -56,7 +45,7 @@ returns c = record {
       let r = c.args.rank in
       let part = part_at s.parts r in
       let local = c.into_local.ensures ∙ local-seen c.args.seen part.cells c.requires.seen ∙ local-is s m dofs a n is r c.requires.rank in
-      let sets = c.in_ok-sets.ensures ∙ ap part_sets c.part-part.ensures.part ∙ sets-are s m dofs a n is r c.requires.rank in
+      let sets = c.requires.sets ∙ sets-are s m dofs a n is r c.requires.rank in
       let labels = c.in_ok-labels.ensures m a n r (subst (λ p. IsPartOf p m a n r) (sym c.part-part.ensures.part) (is-part s m dofs a n is r c.requires.rank)) in
       c.of.ensures ∙ (λ i. record { local = local i; sets = sets i; labels = labels i; fields = c.requires.fields.are m dofs a n is i });
 }
