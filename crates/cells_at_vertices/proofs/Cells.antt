@@ -15,8 +15,8 @@ use Rattle.mesh_defs.specs.Diagram.{Diagram}
 use Rattle.plex_defs.specs.Closure.{covers, cone_entry, new_points, point_in}
 use Rattle.walk_defs.specs.Cones.{facets_by_cone, levels_by_cones, closure_by_cones}
 use Rattle.plex_chart.specs.Chart.{stratum_range, chart_size}
-use Rattle.cell_laws.specs.Cells.{once, Once}
-use Rattle.cell_laws.proofs.Once.{count-cons, once-append}
+use Rattle.rank_laws.specs.cell_laws.Cells.{once, Once}
+use Rattle.rank_laws.proofs.cell_laws.Once.{count-cons, once-append}
 use Rattle.cells_at_vertices.specs.Own.{closures_with, closure_counts, AreCounts, IsCounted}
 
 -- ---- closures have a point once

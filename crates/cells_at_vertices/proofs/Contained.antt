@@ -18,30 +18,30 @@ use Rattle.mesh_defs.specs.Mesh.{Mesh, Cell, placed_cells}
 use Rattle.mesh_defs.specs.Points.{Point, Sight, point_of, point_on, cell_sight, vertex_sight, contains}
 use Rattle.mesh_defs.specs.Diagram.{Diagram, chart, place_in, cone, diagram, IsAccepted}
 use Rattle.mesh_defs.specs.RightMesh.{IsRightMesh, AreCells, in_some}
-use Rattle.diagram_laws.specs.Strata.{whole_sights}
+use Rattle.rank_laws.specs.diagram_laws.Strata.{whole_sights}
 use Rattle.plex_defs.specs.Closure.{covers, arrangements, point_in}
 use Rattle.plex_chart.specs.Chart.{IsInStratum, HasStrata, IsPlex}
 use Rattle.walk_defs.specs.Cones.{closure_by_cones, reaches}
-use Rattle.walk_laws.proofs.Closures.{plex-cones}
-use Rattle.walk_laws.proofs.Stars.{closure-reaches}
+use Rattle.headline_laws.proofs.walk_laws.Closures.{plex-cones}
+use Rattle.headline_laws.proofs.walk_laws.Stars.{closure-reaches}
 use Rattle.rank_defs.specs.Ranks.{IsAssignment, assigned, held_cells, rank_of}
 use Rattle.rank_laws.proofs.Arranging.{arranged-cells}
 use Rattle.rank_laws.proofs.ChartsClosed.{held-cells}
 use Rattle.rank_laws.proofs.Owning.{ranks-below}
-use Rattle.cell_laws.specs.Cells.{once}
-use Rattle.cell_laws.proofs.Once.{count-cons, count-map, count_agree}
-use Rattle.reach_laws.proofs.Charts.{chart-differs, own-place}
-use Rattle.reach_laws.proofs.Cells.{cell-reaches}
-use Rattle.orient_laws.specs.Named.{chart_stratum}
-use Rattle.keyed_laws.specs.Keyed.{keyed_point, keyed_stratum, keyed_chart, diagram_of_keyed}
-use Rattle.keyed_laws.proofs.Views.{diagram-told}
-use Rattle.share_laws.proofs.Own.{sound-cells}
+use Rattle.rank_laws.specs.cell_laws.Cells.{once}
+use Rattle.rank_laws.proofs.cell_laws.Once.{count-cons, count-map, count_agree}
+use Rattle.rank_laws.proofs.reach_laws.Charts.{chart-differs, own-place}
+use Rattle.rank_laws.proofs.reach_laws.Cells.{cell-reaches}
+use Rattle.rank_laws.specs.orient_laws.Named.{chart_stratum}
+use Rattle.rank_laws.specs.keyed_laws.Keyed.{keyed_point, keyed_stratum, keyed_chart, diagram_of_keyed}
+use Rattle.rank_laws.proofs.keyed_laws.Views.{diagram-told}
+use Rattle.rank_laws.proofs.share_laws.Own.{sound-cells}
 use Rattle.rank_chart_laws.specs.OwnRanks.{own_vertices}
-use Rattle.rank_diagram_laws.specs.Parts.{held_faces}
-use Rattle.rank_diagram_laws.proofs.Charted.{chart-parts, assigned-tops, stratum-vertices}
-use Rattle.seed_laws.specs.Given.{has_vertex, vertices_of, vertex_point}
-use Rattle.seed_laws.proofs.Vertices.{contains-vertex, in_some-vertex, placed-high, cells-high}
-use Rattle.field_laws.proofs.Sums.{sum-classes}
+use Rattle.rank_chart_laws.specs.rank_diagram_laws.Parts.{held_faces}
+use Rattle.rank_chart_laws.proofs.rank_diagram_laws.Charted.{chart-parts, assigned-tops, stratum-vertices}
+use Rattle.headline_laws.specs.seed_laws.Given.{has_vertex, vertices_of, vertex_point}
+use Rattle.headline_laws.proofs.seed_laws.Vertices.{contains-vertex, in_some-vertex, placed-high, cells-high}
+use Rattle.rank_chart_laws.proofs.field_laws.Sums.{sum-classes}
 use Rattle.cells_at_vertices.specs.Counts.{cells_at}
 use Rattle.cells_at_vertices.specs.Own.{closures_with, closure_counts}
 

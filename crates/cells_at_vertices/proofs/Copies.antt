@@ -23,10 +23,10 @@ use Rattle.sf_ops.specs.Asked.{AreRootValues, CoversOwn, CoverLeaves}
 use Rattle.rank_defs.specs.Ranks.{IsAssignment, assigned, held_cells, owner}
 use Rattle.rank_defs.specs.Spread.{place_at_owner, leaves_at_owners, ghost_places, point_forest}
 use Rattle.rank_laws.proofs.Owning.{owner-assigned, owner-below, held-are_cells}
-use Rattle.sum_defs.specs.Sums.{home, own_sum, sum_at, word_at, AreSums, SumsFit}
-use Rattle.field_laws.specs.Weights.{no_sight}
-use Rattle.field_laws.proofs.Sums.{all-or, enumerated-low, sum-bound, sum-both, sum-map, sum-numbered, sum-filter, sum-one, sum-same, sum-zeros}
-use Rattle.field_laws.proofs.Places.{leaf-at, place-is, shown-sum, shown-there}
+use Rattle.sf_defs.specs.sums.Sums.{home, own_sum, sum_at, word_at, AreSums, SumsFit}
+use Rattle.rank_chart_laws.specs.field_laws.Weights.{no_sight}
+use Rattle.rank_chart_laws.proofs.field_laws.Sums.{all-or, enumerated-low, sum-bound, sum-both, sum-map, sum-numbered, sum-filter, sum-one, sum-same, sum-zeros}
+use Rattle.rank_chart_laws.proofs.field_laws.Places.{leaf-at, place-is, shown-sum, shown-there}
 
 -- ---- lists of ranks
 

@@ -14,12 +14,12 @@ use Rattle.mesh_defs.specs.Diagram.{Diagram, chart, diagram}
 use Rattle.mesh_defs.specs.Sights.{points_differ}
 use Rattle.mesh_defs.specs.RightMesh.{IsRightMesh, AreCells, in_some}
 use Rattle.sf_ops.specs.Asked.{AreRootValues, CoverLeaves}
-use Rattle.sum_defs.specs.Sums.{AreSums, SumsFit}
+use Rattle.sf_defs.specs.sums.Sums.{AreSums, SumsFit}
 use Rattle.plex_chart.specs.Chart.{IsPlex}
 use Rattle.rank_defs.specs.Ranks.{IsAssignment, assigned, held, held_cells}
 use Rattle.rank_defs.specs.Spread.{LocalMesh, PlainDist, charts, plain_dist, local_mesh, point_forest}
 use Rattle.rank_laws.proofs.ChartsClosed.{held-cells}
-use Rattle.reach_laws.proofs.Charts.{chart-members, chart-differs}
+use Rattle.rank_laws.proofs.reach_laws.Charts.{chart-members, chart-differs}
 use Rattle.rank_chart_laws.specs.OwnRanks.{own_vertices}
 use Rattle.cells_at_vertices.specs.declared.counts.VertexCount.{VertexCount}
 use Rattle.cells_at_vertices.specs.Counts.{cells_at, counts_of_rank, vertex_counts}

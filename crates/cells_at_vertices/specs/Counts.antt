@@ -5,7 +5,7 @@ use Rattle.plain_lists.specs.Lists.{below}
 use Rattle.mesh_defs.specs.Mesh.{Mesh, Cell}
 use Rattle.mesh_defs.specs.Diagram.{twist_key}
 use Rattle.rank_defs.specs.Ranks.{assigned}
-use Rattle.seed_laws.specs.Given.{vertices_of}
+use Rattle.headline_laws.specs.seed_laws.Given.{vertices_of}
 use Rattle.orient_iface.specs.declared.orienting.OrientFault.{OrientFault}
 use Rattle.orient_iface.specs.declared.orienting.OrientFault.TheVariants.{Twist, NoMemory}
 use Rattle.cells_at_vertices.specs.declared.counts.VertexCount.{VertexCount}

@@ -22,7 +22,7 @@ use plan_reader::Plan;
 use plex_base::NoMemory;
 use plex_mesh::Mesh;
 use sf_fabric::Fabric;
-use sf_sums::sum_copies;
+use sf_ops::sums::sum_copies;
 use std::alloc::Global;
 use std::thread::Threads;
 

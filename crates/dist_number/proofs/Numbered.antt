@@ -26,7 +26,7 @@ use Rattle.rank_defs.specs.Spread.{PlainDist, charts, place_at_owner, leaves_at_
 use Rattle.rank_laws.proofs.Owning.{owned-order, owner-below}
 use Rattle.rank_laws.proofs.PointForests.{IsPoint, chart-points, owner-shows}
 use Rattle.rank_laws.proofs.Strata.{strata-differ}
-use Rattle.step_defs.specs.Numbers.{held_numbers}
+use Rattle.walk_defs.specs.step_defs.Numbers.{held_numbers}
 use Rattle.dist_number.specs.Places.{own_numbers, numbers_at_owners}
 use Rattle.dist_number.proofs.Listed.{length-numbers_at_owners, numbers_at_owners-at}
 use Rattle.dist_number.proofs.Counted.{rank_mesh, length-locals, local-at, owners-are}

@@ -1,3 +1,4 @@
 pub mod Asked
 pub mod Drawn
 pub mod Places
+pub mod dist_trace

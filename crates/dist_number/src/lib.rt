@@ -6,6 +6,7 @@
 
 mod bases;
 mod counts;
+pub mod dist_trace;
 mod drawing;
 mod numbers;
 mod places;

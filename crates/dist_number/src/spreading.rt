@@ -2,7 +2,7 @@
 ghost use Rattle.std.specs.Prelude.{◌≡◌, ℕ, List, IfOk};
 ghost use Rattle.mesh_defs.specs.Mesh.{Mesh};
 ghost use Rattle.rank_defs.specs.Spread.{IsDist};
-ghost use Rattle.step_defs.specs.Numbers.{held_numbers};
+ghost use Rattle.walk_defs.specs.step_defs.Numbers.{held_numbers};
 ghost use Rattle.dist_number.specs.Drawn.{AreDrawn};
 
 use crate::bases::Bases;

@@ -18,14 +18,14 @@ use Rattle.plex_defs.specs.Fields.{row_values}
 use Rattle.rank_defs.specs.Ranks.{assigned, rank_of, held_cells, owner}
 use Rattle.rank_defs.specs.Spread.{ScatterPart, section_numbers, coordinates_of}
 use Rattle.rank_laws.proofs.ChartsClosed.{held-cells}
-use Rattle.scatter_state.specs.Parts.{cells_of, number_of}
-use Rattle.scatter_state.proofs.Given.{numbers-cells_of}
-use Rattle.seed_laws.specs.Given.{vertices_of, owners_of, marks_on_cells, vertex_point}
-use Rattle.seed_laws.specs.Asked.{rank_vertices}
-use Rattle.seed_laws.proofs.Parts.{part-of_cells}
-use Rattle.seed_laws.proofs.Asking.{rank_vertices-below}
-use Rattle.rank_cells.specs.Own.{Held, held_of, IsFull}
-use Rattle.section_rows.specs.Last.{numbers_on}
+use Rattle.dist_state.specs.scatter_state.Parts.{cells_of, number_of}
+use Rattle.dist_state.proofs.scatter_state.Given.{numbers-cells_of}
+use Rattle.headline_laws.specs.seed_laws.Given.{vertices_of, owners_of, marks_on_cells, vertex_point}
+use Rattle.headline_laws.specs.seed_laws.Asked.{rank_vertices}
+use Rattle.headline_laws.proofs.seed_laws.Parts.{part-of_cells}
+use Rattle.headline_laws.proofs.seed_laws.Asking.{rank_vertices-below}
+use Rattle.dist_seed.specs.rank_cells.Own.{Held, held_of, IsFull}
+use Rattle.dist_seed.specs.section_rows.Last.{numbers_on}
 use Rattle.dist_seed.specs.Parts.{part_given}
 
 -- the cells of a rank are cells of the mesh

@@ -11,8 +11,8 @@ use Rattle.plex_defs.specs.Fields.{AreRightDofs, row_values}
 use Rattle.rank_defs.specs.Ranks.{IsRightAssignment, assigned}
 use Rattle.rank_defs.specs.Spread.{ScatterPart, PlainScatter, scatter_part, plain_scatter, section_numbers, vertices_among, IsScatter}
 use Rattle.mesh_defs.specs.Diagram.{chart}
-use Rattle.scatter_state.specs.Whole.{IsWholeScatter}
-use Rattle.rank_cells.specs.Own.{Held, held_of}
+use Rattle.dist_state.specs.scatter_state.Whole.{IsWholeScatter}
+use Rattle.dist_seed.specs.rank_cells.Own.{Held, held_of}
 use Rattle.dist_seed.specs.Parts.{part_given}
 
 -- a rank has rows of each data section

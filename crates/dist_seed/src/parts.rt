@@ -3,20 +3,20 @@ ghost use Rattle.std.specs.Prelude.{◌≡◌, ◌<◌, ◌≤◌, [], length, m
 ghost use Rattle.std.specs.List.{AllByRecursion};
 ghost use Rattle.plain_lists.specs.Lists.{below};
 ghost use Rattle.rank_defs.specs.Spread.{coordinates_of};
-ghost use Rattle.rank_cells.specs.Own.{held_of};
-ghost use Rattle.section_rows.specs.Last.{AreTablesOf};
-ghost use Rattle.seed_laws.specs.Given.{owners_of};
+ghost use Rattle.dist_seed.specs.rank_cells.Own.{held_of};
+ghost use Rattle.dist_seed.specs.section_rows.Last.{AreTablesOf};
+ghost use Rattle.headline_laws.specs.seed_laws.Given.{owners_of};
 ghost use Rattle.dist_seed.specs.Parts.{part_given};
 
+use crate::rank_cells::{RankCells, rank_cells};
+use crate::rank_marks::rank_marks;
+use crate::section_rows::{RowTable, rows_of};
+use crate::vertex_owners::owners_at;
+use dist_state::scatter_state::{PartLists, RankPart};
 use plex_base::NoMemory;
 use plex_mesh::Mesh;
-use rank_cells::{RankCells, rank_cells};
-use rank_marks::rank_marks;
-use scatter_state::{PartLists, RankPart};
-use section_rows::{RowTable, rows_of};
 use std::alloc::Global;
 use std::thread::Threads;
-use vertex_owners::owners_at;
 
 /// What each of so many ranks holds, where `ranks` has the rank of each cell.
 pub(crate) fn held_cells(

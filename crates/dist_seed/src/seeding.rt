@@ -5,18 +5,18 @@ ghost use Rattle.input_defs.specs.States.{first_ranks};
 ghost use Rattle.rank_defs.specs.Spread.{IsScatter};
 ghost use Rattle.plan_reader.specs.Drafts.{counts_of};
 
+use crate::part_ranks::first_ranks;
 use crate::parts::{Sources, held_cells, parts_of};
+use crate::section_rows::tables_of;
 use crate::sections::{dofs_of, sections_of};
-use part_ranks::first_ranks;
+use crate::vertex_owners::vertex_owners;
+use dist_state::scatter_state::Scatter;
 use plan_reader::Plan;
 use plex_base::NoMemory;
 use plex_mesh::Mesh;
-use scatter_state::Scatter;
-use section_rows::tables_of;
 use sf_fabric::Fabric;
 use std::alloc::Global;
 use std::thread::Threads;
-use vertex_owners::vertex_owners;
 
 /// Gives each rank the cells that the plan's first part assigns to it, and what belongs to them: their
 /// vertices with coordinates and owners, the marks on their points, and the rows of data of cells and

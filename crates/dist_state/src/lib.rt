@@ -6,6 +6,8 @@
 
 mod dist;
 mod rank_mesh;
+pub mod scatter_state;
+pub mod shared_state;
 
 pub use dist::Dist;
 pub use rank_mesh::{RankMesh, RankParts};

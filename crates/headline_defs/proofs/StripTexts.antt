@@ -6,9 +6,9 @@ use Rattle.plain_lists.specs.Lists.{sorted}
 use Rattle.mesh_defs.specs.Orientation.{rotations, reflections, orientations, corners_under, act, relative}
 use Rattle.mesh_defs.specs.Points.{sights_of, first_sight, key, arrangement, contains}
 use Rattle.mesh_defs.specs.Diagram.{stratum, strata, chart, seen_under, entry, cone, twist_key, diagram}
-use Rattle.line_defs.specs.Rows.{lines_of, tokens_of}
-use Rattle.line_defs.specs.Numbers.{fraction_digits, unsigned_fixed_text, fixed_text}
-use Rattle.text_defs.specs.Text.{tag, entry_text, at_text, tail_text, mesh_line, ranks_line, step_line, rank_line, total_line, rank_text, total_text, end_line}
+use Rattle.input_defs.specs.line_defs.Rows.{lines_of, tokens_of}
+use Rattle.input_defs.specs.line_defs.Numbers.{fraction_digits, unsigned_fixed_text, fixed_text}
+use Rattle.input_defs.specs.text_defs.Text.{tag, entry_text, at_text, tail_text, mesh_line, ranks_line, step_line, rank_line, total_line, rank_text, total_text, end_line}
 use Rattle.sf_defs.specs.Asks.{step}
 use Rattle.sf_defs.specs.PrintedOrder.{fetched_before, stands_before, printed_order}
 use Rattle.sf_defs.specs.Script.{scripted}

@@ -30,15 +30,15 @@ use Rattle.sf_defs.specs.PrintedOrder.{fetched_before, stands_before, printed_or
 use Rattle.rank_defs.specs.Ranks.{assigned, layer, held_cells, held, ranks_at, owner, is_shared, owned, own_key}
 use Rattle.sf_defs.specs.Script.{scripted}
 use Rattle.rank_defs.specs.Spread.{charts, trace}
-use Rattle.scan_defs.specs.Items.{name_of, tokens_on, items_on, items_of, ahead}
-use Rattle.scan_defs.specs.Lines.{line_number, lines_from, is_indent}
-use Rattle.scan_defs.specs.Numbers.{uint_of, int_of, decimal_of, scaled, fixed_value, fixed_of}
-use Rattle.scan_defs.specs.Quotes.{quoted_on}
+use Rattle.input_defs.specs.scan_defs.Items.{name_of, tokens_on, items_on, items_of, ahead}
+use Rattle.input_defs.specs.scan_defs.Lines.{line_number, lines_from, is_indent}
+use Rattle.input_defs.specs.scan_defs.Numbers.{uint_of, int_of, decimal_of, scaled, fixed_value, fixed_of}
+use Rattle.input_defs.specs.scan_defs.Quotes.{quoted_on}
 use Rattle.std.specs.Fmt.{digits}
-use Rattle.line_defs.specs.Numbers.{numeral, fraction_digits, unsigned_fixed_text, fixed_text}
-use Rattle.text_defs.specs.Refusals.{words_refused, read_refused, too_long_refused}
-use Rattle.line_defs.specs.Rows.{lines_of, tokens_of}
-use Rattle.text_defs.specs.Text.{tag, entry_text, at_text, tail_text, mesh_line, ranks_line, step_line, rank_line, total_line, rank_text, total_text, end_line}
+use Rattle.input_defs.specs.line_defs.Numbers.{numeral, fraction_digits, unsigned_fixed_text, fixed_text}
+use Rattle.input_defs.specs.text_defs.Refusals.{words_refused, read_refused, too_long_refused}
+use Rattle.input_defs.specs.line_defs.Rows.{lines_of, tokens_of}
+use Rattle.input_defs.specs.text_defs.Text.{tag, entry_text, at_text, tail_text, mesh_line, ranks_line, step_line, rank_line, total_line, rank_text, total_text, end_line}
 use Rattle.input_defs.proofs.PlateRows.{plate}
 
 -- the files of the rows, by their names

@@ -3,7 +3,7 @@ use Rattle.std.specs.Prelude.{◌≡◌, ◌⊎◌, ℕ, List, [], ◌∷◌, �
 use Rattle.cause_defs.specs.Told.{Told, untold, absent, told, IsWhereTold}
 use Rattle.cause_defs.specs.Faults.{Rises}
 use Rattle.cause_defs.specs.Written.{appended, AppendsPart, AreFlushed}
-use Rattle.text_defs.specs.Refusals.{read_refused}
+use Rattle.input_defs.specs.text_defs.Refusals.{read_refused}
 use Rattle.sf_defs.specs.Rounds.{Round}
 use Rattle.input_defs.specs.declared.Status.{Status}
 use Rattle.input_defs.specs.declared.Status.TheVariants.{Done, Words, Plan, Mesh, ReadFault, WriteFault, NoMemory, TooLong}

@@ -3,8 +3,8 @@ use Rattle.std.specs.Prelude.{ℕ, List, [], ◌++◌, get_or, flat_map, decimal
 use Rattle.mesh_defs.specs.declared.ConeEntry.{ConeEntry}
 use Rattle.mesh_defs.specs.Mesh.{Mesh}
 use Rattle.mesh_defs.specs.Points.{Sight, point_of}
-use Rattle.line_defs.specs.Numbers.{fixed_text}
-use Rattle.text_defs.specs.Text.{tag, entry_text, tail_text, line, step_line}
+use Rattle.input_defs.specs.line_defs.Numbers.{fixed_text}
+use Rattle.input_defs.specs.text_defs.Text.{tag, entry_text, tail_text, line, step_line}
 use Rattle.sf_defs.specs.Asks.{Entry}
 use Rattle.input_defs.specs.Plans.{Move, Part, Layers, DofsLine}
 use Rattle.input_defs.specs.Further.{labels_text, data_text}

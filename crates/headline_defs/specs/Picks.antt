@@ -1,8 +1,8 @@
 -- The first word of a replay: picks, which say whose turn it is.
 use Rattle.std.specs.Prelude.{ℕ, ◌==◌, if◌then◌else◌, List, [], ◌∷◌, Option, Some, None, codes}
 use Rattle.plain_lists.specs.Lists.{same_list}
-use Rattle.line_defs.specs.Rows.{parts}
-use Rattle.line_defs.specs.Numbers.{numeral}
+use Rattle.input_defs.specs.line_defs.Rows.{parts}
+use Rattle.input_defs.specs.line_defs.Numbers.{numeral}
 
 abbrev pub and_more : Option ℕ → Option (List ℕ) → Option (List ℕ)
 and_more (Some n) (Some ns) = Some (n ∷ ns)

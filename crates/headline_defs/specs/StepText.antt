@@ -8,7 +8,7 @@ use Rattle.mesh_defs.specs.Tables.{dim_of}
 use Rattle.mesh_defs.specs.Mesh.{Mesh, Section, placed_cells}
 use Rattle.mesh_defs.specs.Points.{Sight, point_of}
 use Rattle.mesh_defs.specs.Diagram.{strata, cone, diagram, place_in}
-use Rattle.text_defs.specs.Text.{Rank, number_of, rank_text, total_text, end_line}
+use Rattle.input_defs.specs.text_defs.Text.{Rank, number_of, rank_text, total_text, end_line}
 use Rattle.sf_defs.specs.declared.Tag.TheVariants.{Free}
 use Rattle.plex_defs.specs.Closure.{closure, arrangements}
 use Rattle.sf_defs.specs.Rounds.{Round, in_order}

@@ -2,7 +2,7 @@
 use Rattle.std.specs.Prelude.{◌≡◌, ℕ, List, [], ◌∷◌, length, map, take, Option, Some, None, Result, Ok, Err}
 use Rattle.plain_lists.specs.Lists.{below}
 use Rattle.mesh_defs.specs.Mesh.{Mesh}
-use Rattle.text_defs.specs.Refusals.{words_refused}
+use Rattle.input_defs.specs.text_defs.Refusals.{words_refused}
 use Rattle.sf_defs.specs.declared.Tag.TheVariants.{Home, Number}
 use Rattle.sf_defs.specs.Rounds.{Round}
 use Rattle.sf_defs.specs.Script.{scripted}

@@ -5,7 +5,7 @@ use Rattle.std.specs.List.{AllByRecursion}
 use Rattle.std.proofs.lemmas.Bool.{eqb-true, eqb-false, ltb-false}
 use Rattle.std.proofs.lemmas.List.{length-take, append-nil, take-take, nil_from_length}
 use Rattle.std.proofs.lemmas.Grind.{flat_map-append}
-use Rattle.text_defs.specs.Text.{end_line}
+use Rattle.input_defs.specs.text_defs.Text.{end_line}
 use Rattle.sf_defs.specs.Rounds.{Round}
 use Rattle.input_defs.specs.Further.{full_head}
 use Rattle.input_defs.specs.States.{State, states}

@@ -14,7 +14,7 @@ use Rattle.mesh_defs.specs.Diagram.{strata, chart, place_in, entry, cone, IsAcce
 use Rattle.mesh_laws.proofs.Containing.{chart-all}
 use Rattle.mesh_laws.proofs.Firsts.{shows-true, shows-own, same_point-sym}
 use Rattle.mesh_defs.specs.Sights.{points_differ}
-use Rattle.text_defs.specs.Text.{Rank, number_of}
+use Rattle.input_defs.specs.text_defs.Text.{Rank, number_of}
 use Rattle.rank_defs.specs.Ranks.{IsAssignment, assigned, held_cells, held, owner, owned}
 use Rattle.rank_defs.specs.Home.{point_number}
 use Rattle.mesh_defs.specs.RightMesh.{in_some, IsFlatOrSolid, IsSoundMesh}

@@ -7,7 +7,7 @@ use Rattle.std.proofs.lemmas.Bool.{eqb-true, eqb-false, ltb-true}
 use Rattle.std.proofs.lemmas.List.{append-nil}
 use Rattle.std.proofs.lemmas.Grind.{flat_map-append}
 use Rattle.mesh_defs.specs.Mesh.{Mesh}
-use Rattle.text_defs.specs.Text.{end_line}
+use Rattle.input_defs.specs.text_defs.Text.{end_line}
 use Rattle.sf_defs.specs.Rounds.{Round}
 use Rattle.rank_defs.specs.Home.{IsHomeRound, IsNumberRound}
 use Rattle.input_defs.specs.Further.{full_head}

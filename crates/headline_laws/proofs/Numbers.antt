@@ -13,7 +13,7 @@ use Rattle.plain_lists.specs.Lists.{below}
 use Rattle.plain_lists.proofs.Below.{length-below, get_or-below, map-below-length}
 use Rattle.mesh_defs.specs.Mesh.{Mesh}
 use Rattle.mesh_defs.specs.Points.{Sight}
-use Rattle.text_defs.specs.Text.{Rank}
+use Rattle.input_defs.specs.text_defs.Text.{Rank}
 use Rattle.sf_defs.specs.declared.Op.TheVariants.{Sum}
 use Rattle.sf_defs.specs.declared.Ask.{Ask}
 use Rattle.sf_defs.specs.Asks.{step, on_word, word_after}

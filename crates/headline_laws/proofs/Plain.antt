@@ -12,7 +12,7 @@ use Rattle.plain_lists.proofs.Least.{least-bound}
 use Rattle.mesh_defs.specs.Mesh.{Mesh, Cell, placed_cells}
 use Rattle.mesh_defs.specs.Points.{Point, Sight, point_of, contains}
 use Rattle.mesh_defs.specs.Diagram.{chart, cone}
-use Rattle.text_defs.specs.Text.{alone, number_of, tag, line, tail_text, rank_text, total_text, step_line, end_line}
+use Rattle.input_defs.specs.text_defs.Text.{alone, number_of, tag, line, tail_text, rank_text, total_text, step_line, end_line}
 use Rattle.sf_defs.specs.declared.Op.TheVariants.{Sum}
 use Rattle.sf_defs.specs.declared.Ask.{Ask}
 use Rattle.sf_defs.specs.Asks.{Replays}

@@ -1,1 +1,3 @@
 pub mod Course
+pub mod seed_laws
+pub mod step_laws

@@ -3,12 +3,17 @@
 //! Each function below does nothing: its contract is the law, and its proof is the law's.
 #![tactic(auto)]
 
+pub mod due_laws;
+pub mod seed_laws;
+pub mod step_laws;
+pub mod walk_laws;
+
 ghost use Rattle.std.specs.Prelude.{◌≡◌, ℕ, ◌+◌, ◌<◌, ◌==◌, List, [], ◌++◌, length, map, take, slice_index, count_by, Contains, Some, true};
 ghost use Rattle.std.specs.List.{list_any};
 ghost use Rattle.mesh_defs.specs.Mesh.{Mesh, placed_cells};
 ghost use Rattle.mesh_defs.specs.Points.{Point, Sight, point_of, shows};
 ghost use Rattle.mesh_defs.specs.Diagram.{strata, chart, cone, IsAccepted};
-ghost use Rattle.text_defs.specs.Text.{number_of};
+ghost use Rattle.input_defs.specs.text_defs.Text.{number_of};
 ghost use Rattle.sf_defs.specs.Rounds.{Round};
 ghost use Rattle.rank_defs.specs.Ranks.{IsAssignment};
 ghost use Rattle.rank_defs.specs.Home.{IsNumberRound, bases_of, point_number};

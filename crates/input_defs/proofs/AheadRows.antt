@@ -2,11 +2,11 @@
 use Rattle.std.proofs.Common.{◌≡◌, ℕ, List, [], ◌∷◌, map, Option, Some, None, refl}
 use Rattle.std.specs.Prelude.{codes, option_and_then}
 use Rattle.std.specs.Result.{result_err}
-use Rattle.line_defs.specs.Rows.{lines_of, tokens_of}
-use Rattle.scan_defs.specs.Lines.{line_number, lines_from, is_indent}
-use Rattle.scan_defs.specs.Items.{name_of, tokens_on, items_on, items_of, ahead}
-use Rattle.scan_defs.specs.Quotes.{quoted_on}
-use Rattle.scan_defs.specs.Numbers.{uint_of, int_of, decimal_of, scaled, fixed_value, fixed_of}
+use Rattle.input_defs.specs.line_defs.Rows.{lines_of, tokens_of}
+use Rattle.input_defs.specs.scan_defs.Lines.{line_number, lines_from, is_indent}
+use Rattle.input_defs.specs.scan_defs.Items.{name_of, tokens_on, items_on, items_of, ahead}
+use Rattle.input_defs.specs.scan_defs.Quotes.{quoted_on}
+use Rattle.input_defs.specs.scan_defs.Numbers.{uint_of, int_of, decimal_of, scaled, fixed_value, fixed_of}
 use Rattle.plex_defs.specs.Fields.{row_values}
 use Rattle.input_defs.specs.Bodies.{lexeme_of}
 use Rattle.input_defs.specs.Sections.{format, name, names, node, nodes_after, nodes, element, elements}
@@ -21,7 +21,7 @@ use Rattle.input_defs.specs.Plans.{form_of, with_form, plan_from, plan_of, rank_
 use Rattle.input_defs.specs.Words.{made_of, with_word, request_from, request, plan_name, mesh_name}
 use Rattle.input_defs.specs.Generated.{grid_points, grid_cells, corners_at, cells_at, made}
 use Rattle.std.specs.Fmt.{digits}
-use Rattle.text_defs.specs.Refusals.{words_refused, read_refused, too_long_refused}
+use Rattle.input_defs.specs.text_defs.Refusals.{words_refused, read_refused, too_long_refused}
 use Rattle.input_defs.specs.declared.PlanFault.{PlanFault}
 use Rattle.input_defs.specs.declared.PlanFault.TheVariants.{Word, NoPart, NotYet}
 use Rattle.input_defs.specs.declared.Status.TheVariants as status

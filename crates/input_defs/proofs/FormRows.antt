@@ -1,14 +1,14 @@
 -- Worked rows: forms that a mesh file may take, and the first of several faults.
 use Rattle.std.proofs.Common.{◌≡◌, ℕ, true, false, List, [], ◌∷◌, ◌++◌, map, pos, negsuc, Some, None, Ok, Err, refl}
 use Rattle.std.specs.Prelude.{Result, codes, replicate, flat_map}
-use Rattle.line_defs.specs.Rows.{lines_of}
+use Rattle.input_defs.specs.line_defs.Rows.{lines_of}
 use Rattle.input_defs.specs.Content.{Content}
 use Rattle.mesh_defs.specs.Mesh.{Section}
 use Rattle.mesh_defs.specs.declared.Place.TheVariants as place
-use Rattle.scan_defs.specs.Lines.{line_number, lines_from, is_indent}
-use Rattle.scan_defs.specs.Items.{name_of, tokens_on, items_on, items_of, ahead}
-use Rattle.scan_defs.specs.Quotes.{quoted_on}
-use Rattle.scan_defs.specs.Numbers.{uint_of, int_of, decimal_of, scaled, fixed_value, fixed_of}
+use Rattle.input_defs.specs.scan_defs.Lines.{line_number, lines_from, is_indent}
+use Rattle.input_defs.specs.scan_defs.Items.{name_of, tokens_on, items_on, items_of, ahead}
+use Rattle.input_defs.specs.scan_defs.Quotes.{quoted_on}
+use Rattle.input_defs.specs.scan_defs.Numbers.{uint_of, int_of, decimal_of, scaled, fixed_value, fixed_of}
 use Rattle.input_defs.specs.declared.What.TheVariants as what
 use Rattle.input_defs.specs.declared.MshFault.{MshFault}
 use Rattle.input_defs.specs.declared.MshFault.TheVariants.{NotMsh, Version, Header, BadNumber, BadCount, BadName, Unclosed, RepeatedSection, MissingSection, RepeatedNodeNumber, ElementType, UnknownNode, RepeatedNode, Components, UnknownNumber, OutOfRange, TooMany}

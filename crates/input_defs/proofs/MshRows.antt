@@ -2,11 +2,11 @@
 use Rattle.std.proofs.Common.{◌≡◌, ℕ, true, false, List, [], ◌∷◌, ◌++◌, map, pos, Option, Some, Ok, refl}
 use Rattle.std.specs.Prelude.{codes}
 use Rattle.std.specs.Result.{result_err}
-use Rattle.line_defs.specs.Rows.{lines_of}
-use Rattle.scan_defs.specs.Lines.{line_number, lines_from, is_indent}
-use Rattle.scan_defs.specs.Items.{name_of, tokens_on, items_on, items_of, ahead}
-use Rattle.scan_defs.specs.Quotes.{quoted_on}
-use Rattle.scan_defs.specs.Numbers.{uint_of, int_of, decimal_of, scaled, fixed_value, fixed_of}
+use Rattle.input_defs.specs.line_defs.Rows.{lines_of}
+use Rattle.input_defs.specs.scan_defs.Lines.{line_number, lines_from, is_indent}
+use Rattle.input_defs.specs.scan_defs.Items.{name_of, tokens_on, items_on, items_of, ahead}
+use Rattle.input_defs.specs.scan_defs.Quotes.{quoted_on}
+use Rattle.input_defs.specs.scan_defs.Numbers.{uint_of, int_of, decimal_of, scaled, fixed_value, fixed_of}
 use Rattle.input_defs.specs.declared.MshFault.{MshFault}
 use Rattle.input_defs.specs.declared.MshFault.TheVariants.{NotMsh, Version, Binary, BadNumber, BadCount, Unclosed, MissingSection, RepeatedNodeNumber, ElementType, UnknownNode, RepeatedNode, OutOfRange}
 use Rattle.input_defs.specs.Bodies.{lexeme_of}

@@ -1,7 +1,7 @@
 -- Worked rows: plans, the first faults of plans, ranks of cells, and plans that do not fit.
 use Rattle.std.proofs.Common.{◌≡◌, ℕ, true, false, List, [], ◌∷◌, map, Option, Some, None, Ok, Err, refl}
 use Rattle.std.specs.Prelude.{Result, codes}
-use Rattle.line_defs.specs.Rows.{lines_of, tokens_of}
+use Rattle.input_defs.specs.line_defs.Rows.{lines_of, tokens_of}
 use Rattle.input_defs.specs.Plans.{form_of, with_form, plan_from, plan_of, rank_by, misfits, misfit}
 use Rattle.std.specs.Result.{result_err}
 use Rattle.plain_lists.specs.Lists.{below}

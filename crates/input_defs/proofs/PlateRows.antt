@@ -1,11 +1,11 @@
 -- Worked rows: a square plate with a round hole, its lines ended by CR LF. Node 5 is the centre of the hole and in no cell.
 use Rattle.std.proofs.Common.{◌≡◌, ℕ, List, [], ◌∷◌, ◌++◌, pos, negsuc, Ok, refl}
 use Rattle.std.specs.Prelude.{codes}
-use Rattle.line_defs.specs.Rows.{lines_of}
-use Rattle.scan_defs.specs.Lines.{line_number, lines_from, is_indent}
-use Rattle.scan_defs.specs.Items.{name_of, tokens_on, items_on, items_of, ahead}
-use Rattle.scan_defs.specs.Quotes.{quoted_on}
-use Rattle.scan_defs.specs.Numbers.{uint_of, int_of, decimal_of, scaled, fixed_value, fixed_of}
+use Rattle.input_defs.specs.line_defs.Rows.{lines_of}
+use Rattle.input_defs.specs.scan_defs.Lines.{line_number, lines_from, is_indent}
+use Rattle.input_defs.specs.scan_defs.Items.{name_of, tokens_on, items_on, items_of, ahead}
+use Rattle.input_defs.specs.scan_defs.Quotes.{quoted_on}
+use Rattle.input_defs.specs.scan_defs.Numbers.{uint_of, int_of, decimal_of, scaled, fixed_value, fixed_of}
 use Rattle.plex_defs.specs.Fields.{row_values}
 use Rattle.input_defs.specs.Bodies.{lexeme_of}
 use Rattle.input_defs.specs.Sections.{format, name, names, node, nodes_after, nodes, element, elements}

@@ -2,14 +2,14 @@
 use Rattle.std.proofs.Common.{◌≡◌, Bool, true, false, [], ◌∷◌, Option, Some, None, Ok, Err, Result, refl}
 use Rattle.std.specs.Prelude.{codes}
 use Rattle.std.specs.List.{list_all}
-use Rattle.line_defs.specs.Rows.{lines_of}
+use Rattle.input_defs.specs.line_defs.Rows.{lines_of}
 use Rattle.plain_lists.specs.Lists.{sorted}
 use Rattle.mesh_defs.specs.Orientation.{rotations, reflections, orientations, corners_under, act, relative}
 use Rattle.mesh_defs.specs.Points.{sights_of, contains}
-use Rattle.scan_defs.specs.Lines.{line_number, lines_from, is_indent}
-use Rattle.scan_defs.specs.Items.{name_of, tokens_on, items_on, items_of, ahead}
-use Rattle.scan_defs.specs.Quotes.{quoted_on}
-use Rattle.scan_defs.specs.Numbers.{uint_of, int_of, decimal_of, scaled, fixed_value, fixed_of}
+use Rattle.input_defs.specs.scan_defs.Lines.{line_number, lines_from, is_indent}
+use Rattle.input_defs.specs.scan_defs.Items.{name_of, tokens_on, items_on, items_of, ahead}
+use Rattle.input_defs.specs.scan_defs.Quotes.{quoted_on}
+use Rattle.input_defs.specs.scan_defs.Numbers.{uint_of, int_of, decimal_of, scaled, fixed_value, fixed_of}
 use Rattle.plex_defs.specs.Fields.{row_values}
 use Rattle.input_defs.specs.Bodies.{lexeme_of}
 use Rattle.input_defs.specs.Sections.{format, name, names, node, nodes_after, nodes, element, elements}

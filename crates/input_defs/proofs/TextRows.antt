@@ -1,11 +1,11 @@
 -- Worked rows: the texts of mesh files, with names, labels and data.
 use Rattle.std.proofs.Common.{◌≡◌, ℕ, Bool, true, List, [], ◌∷◌, map, Option, Some, None, Ok, Err, refl}
 use Rattle.std.specs.Prelude.{Result, codes}
-use Rattle.line_defs.specs.Rows.{lines_of}
-use Rattle.scan_defs.specs.Lines.{line_number, lines_from, is_indent}
-use Rattle.scan_defs.specs.Items.{name_of, tokens_on, items_on, items_of, ahead}
-use Rattle.scan_defs.specs.Quotes.{quoted_on}
-use Rattle.scan_defs.specs.Numbers.{uint_of, int_of, decimal_of, scaled, fixed_value, fixed_of}
+use Rattle.input_defs.specs.line_defs.Rows.{lines_of}
+use Rattle.input_defs.specs.scan_defs.Lines.{line_number, lines_from, is_indent}
+use Rattle.input_defs.specs.scan_defs.Items.{name_of, tokens_on, items_on, items_of, ahead}
+use Rattle.input_defs.specs.scan_defs.Quotes.{quoted_on}
+use Rattle.input_defs.specs.scan_defs.Numbers.{uint_of, int_of, decimal_of, scaled, fixed_value, fixed_of}
 use Rattle.plex_defs.specs.Fields.{row_values, dof_words}
 use Rattle.input_defs.specs.Bodies.{lexeme_of}
 use Rattle.input_defs.specs.Sections.{format, name, names, node, nodes_after, nodes, element, elements}
@@ -20,8 +20,8 @@ use Rattle.std.specs.Prelude.{take}
 use Rattle.std.specs.List.{list_all, list_any}
 use Rattle.std.specs.Fmt.{digits}
 use Rattle.mesh_defs.specs.Mesh.{Mesh}
-use Rattle.line_defs.specs.Numbers.{fraction_digits, unsigned_fixed_text, fixed_text}
-use Rattle.text_defs.specs.Text.{alone, tag, entry_text, at_text, tail_text, mesh_line, ranks_line, step_line, rank_line, total_line, rank_text, total_text, end_line}
+use Rattle.input_defs.specs.line_defs.Numbers.{fraction_digits, unsigned_fixed_text, fixed_text}
+use Rattle.input_defs.specs.text_defs.Text.{alone, tag, entry_text, at_text, tail_text, mesh_line, ranks_line, step_line, rank_line, total_line, rank_text, total_text, end_line}
 use Rattle.input_defs.specs.declared.MeshFault.{MeshFault}
 use Rattle.input_defs.specs.Plans.{DofsLine}
 use Rattle.input_defs.specs.Further.{name_line, section_line, dofs_line, labels_at, labels_text, data_text, full_point, full_head, full_text}

@@ -1,11 +1,11 @@
 -- How the body of a section is read: number by number and text by text, up to the first fault. A fault is of the token
 -- that is read, or that there is none left.
 use Rattle.std.specs.Prelude.{ℕ, zero, suc, ◌==◌, if◌then◌else◌, List, [], ◌∷◌, ℤ, Option, Some, None, option_map, Result, Ok, Err}
-use Rattle.scan_defs.specs.declared.Token.{Token}
-use Rattle.scan_defs.specs.declared.NumberFault.{NumberFault}
-use Rattle.scan_defs.specs.Items.{text_of}
-use Rattle.scan_defs.specs.Quotes.{quoted_on, line_from}
-use Rattle.scan_defs.specs.Numbers.{uint_of, int_of, fixed_of}
+use Rattle.input_defs.specs.declared.scan_defs.Token.{Token}
+use Rattle.input_defs.specs.declared.scan_defs.NumberFault.{NumberFault}
+use Rattle.input_defs.specs.scan_defs.Items.{text_of}
+use Rattle.input_defs.specs.scan_defs.Quotes.{quoted_on, line_from}
+use Rattle.input_defs.specs.scan_defs.Numbers.{uint_of, int_of, fixed_of}
 
 -- a token as a section reads it: its bytes, the quoted text that stands alone from here to the end of the line, and its line
 pub record Lexeme : Type 0 where

@@ -2,9 +2,9 @@
 use Rattle.std.specs.Prelude.{ℕ, ◌-◌, ◌||◌, ◌==◌, nat_le, List, [], get_or, ℤ, pos, negsuc, ok_or, Result, Ok, Err}
 use Rattle.mesh_defs.specs.declared.Place.{Place}
 use Rattle.mesh_defs.specs.Mesh.{Row, Section}
-use Rattle.scan_defs.specs.declared.NumberFault.{NumberFault}
-use Rattle.scan_defs.specs.declared.NumberFault.TheVariants as numbers
-use Rattle.scan_defs.specs.Numbers.{Decimal, uint_of, int_of, decimal_of}
+use Rattle.input_defs.specs.declared.scan_defs.NumberFault.{NumberFault}
+use Rattle.input_defs.specs.declared.scan_defs.NumberFault.TheVariants as numbers
+use Rattle.input_defs.specs.scan_defs.Numbers.{Decimal, uint_of, int_of, decimal_of}
 use Rattle.input_defs.specs.declared.DataFault.{DataFault}
 use Rattle.input_defs.specs.declared.DataFault.TheVariants.{BadNumber, BadCount, BadName, Components, UnknownNumber, OutOfRange, Ended}
 use Rattle.input_defs.specs.Causes.{ok_where}

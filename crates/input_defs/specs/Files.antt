@@ -5,8 +5,8 @@ use Rattle.mesh_defs.specs.declared.Place.TheVariants as place
 use Rattle.plain_lists.specs.Lists.{same_list}
 use Rattle.mesh_defs.specs.Mesh.{Name, Section}
 use Rattle.input_defs.specs.Content.{Node, Element, Content}
-use Rattle.scan_defs.specs.Lines.{line_number}
-use Rattle.scan_defs.specs.Items.{Item, Header, Word, text_of, items, body}
+use Rattle.input_defs.specs.scan_defs.Lines.{line_number}
+use Rattle.input_defs.specs.scan_defs.Items.{Item, Header, Word, text_of, items, body}
 use Rattle.input_defs.specs.declared.What.TheVariants as what
 use Rattle.input_defs.specs.declared.DataFault.{DataFault}
 use Rattle.input_defs.specs.declared.DataFault.TheVariants as data_fault

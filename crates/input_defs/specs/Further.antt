@@ -7,8 +7,8 @@ use Rattle.mesh_defs.specs.declared.Place.TheVariants as place
 use Rattle.mesh_defs.specs.Mesh.{Mesh, Name, Section}
 use Rattle.mesh_defs.specs.Points.{Point, Sight, point_of}
 use Rattle.mesh_defs.specs.Diagram.{cone}
-use Rattle.line_defs.specs.Numbers.{fixed_text}
-use Rattle.text_defs.specs.Text.{alone, number_of, tag, tail_text, line, mesh_line, ranks_line, step_line, rank_text, total_text, end_line}
+use Rattle.input_defs.specs.line_defs.Numbers.{fixed_text}
+use Rattle.input_defs.specs.text_defs.Text.{alone, number_of, tag, tail_text, line, mesh_line, ranks_line, step_line, rank_text, total_text, end_line}
 use Rattle.plex_defs.specs.Labels.{label_of, values_at, marks_on}
 use Rattle.plex_defs.specs.Fields.{row_values, number_on, dof_words}
 use Rattle.input_defs.specs.Plans.{DofsLine}

@@ -14,3 +14,6 @@ pub mod Refused
 pub mod Further
 pub mod Ahead
 pub mod Statuses
+pub mod scan_defs
+pub mod text_defs
+pub mod line_defs

@@ -2,8 +2,8 @@
 use Rattle.std.specs.Prelude.{ℕ, ◌+◌, ◌*◌, ◌/◌, ◌%◌, Bool, true, false, not, ◌&&◌, ◌||◌, ◌==◌, nat_lt, nat_le, if◌then◌else◌, List, [], ◌∷◌, ◌++◌, length, map, get_or, slice_get, find, flat_map, fold, codes, Option, Some, None, option_map, is_none, Result, Ok, Err}
 use Rattle.std.specs.List.{list_any, list_all}
 use Rattle.plain_lists.specs.Lists.{same_list}
-use Rattle.line_defs.specs.Rows.{lines_of, tokens_of}
-use Rattle.line_defs.specs.Numbers.{is_digit, number_of_digits}
+use Rattle.input_defs.specs.line_defs.Rows.{lines_of, tokens_of}
+use Rattle.input_defs.specs.line_defs.Numbers.{is_digit, number_of_digits}
 use Rattle.input_defs.specs.declared.PlanFault.{PlanFault}
 use Rattle.input_defs.specs.declared.PlanFault.TheVariants.{Word, Ranks, NoPart, Overlap, Dofs, Steps, PartLength, PartRank, Weight}
 use Rattle.input_defs.specs.declared.Step.{Step}

@@ -3,8 +3,8 @@ use Rattle.std.specs.Prelude.{ℕ, ◌-◌, ◌/◌, ◌%◌, Bool, nat_lt, if�
 use Rattle.std.specs.Result.{result_err}
 use Rattle.mesh_defs.specs.Mesh.{Mesh}
 use Rattle.mesh_defs.specs.Diagram.{twist_key}
-use Rattle.text_defs.specs.Text.{line}
-use Rattle.text_defs.specs.Refusals.{most_bytes, words_refused, read_refused, too_long_refused}
+use Rattle.input_defs.specs.text_defs.Text.{line}
+use Rattle.input_defs.specs.text_defs.Refusals.{most_bytes, words_refused, read_refused, too_long_refused}
 use Rattle.input_defs.specs.declared.What.{What}
 use Rattle.input_defs.specs.declared.What.TheVariants as what
 use Rattle.input_defs.specs.declared.MshFault.{MshFault}

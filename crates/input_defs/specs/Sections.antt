@@ -6,9 +6,9 @@ use Rattle.mesh_defs.specs.declared.Poly.TheVariants.{Vertex, Segment, Triangle,
 use Rattle.mesh_defs.specs.Tables.{corner_count}
 use Rattle.mesh_defs.specs.Mesh.{Name}
 use Rattle.input_defs.specs.Content.{Node, Element}
-use Rattle.scan_defs.specs.declared.NumberFault.{NumberFault}
-use Rattle.scan_defs.specs.declared.NumberFault.TheVariants as numbers
-use Rattle.scan_defs.specs.Numbers.{uint_of, fixed_of}
+use Rattle.input_defs.specs.declared.scan_defs.NumberFault.{NumberFault}
+use Rattle.input_defs.specs.declared.scan_defs.NumberFault.TheVariants as numbers
+use Rattle.input_defs.specs.scan_defs.Numbers.{uint_of, fixed_of}
 use Rattle.input_defs.specs.declared.What.{What}
 use Rattle.input_defs.specs.declared.What.TheVariants as what
 use Rattle.input_defs.specs.declared.MshFault.{MshFault}

@@ -2,7 +2,7 @@
 use Rattle.std.specs.Prelude.{ℕ, Bool, true, false, not, ◌&&◌, ◌==◌, nat_le, if◌then◌else◌, List, [], ◌∷◌, length, take, drop, find, get_or, codes, Option, Some, None, option_map, option_and_then, is_some}
 use Rattle.std.specs.List.{list_all, before_first, after_first}
 use Rattle.plain_lists.specs.Lists.{same_list}
-use Rattle.line_defs.specs.Numbers.{is_digit, number_of_digits}
+use Rattle.input_defs.specs.line_defs.Numbers.{is_digit, number_of_digits}
 use Rattle.input_defs.specs.declared.Kind.{Kind}
 use Rattle.input_defs.specs.declared.Kind.TheVariants.{Tri, Quad, Tet, Hex}
 

@@ -7,7 +7,10 @@
 
 ghost use Rattle.std.specs.Prelude.{◌≡◌};
 
+pub mod line_defs;
 mod memory;
+pub mod scan_defs;
+pub mod text_defs;
 
 /// What is wrong in the body of one data section.
 #[derive(Clone, Copy, Debug, PartialEq, Eq)]

@@ -3,7 +3,7 @@ use Rattle.std.proofs.Common.{◌≡◌, ℕ, zero, suc, ◌<◌, ◌≤◌, Boo
 use Rattle.std.specs.Prelude.{Result}
 use Rattle.std.specs.List.{AllByRecursion}
 use Rattle.std.proofs.lemmas.Bool.{ne_eqb, cond-false}
-use Rattle.scan_defs.specs.declared.NumberFault.{NumberFault}
+use Rattle.input_defs.specs.declared.scan_defs.NumberFault.{NumberFault}
 use Rattle.input_defs.specs.Bodies.{Lexeme, Faults, Reader, give, ◌>>=◌, read_on, many, with_rest, number_where, tested, after_line, text_where, quoted, nothing_left, whole}
 
 -- tokens after a line, and tokens up to it

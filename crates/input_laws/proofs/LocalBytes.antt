@@ -7,10 +7,10 @@ use Rattle.std.proofs.lemmas.List.{map-append, take-append-drop, take-append-le,
 use Rattle.std.proofs.lemmas.List.Sums.{sum_by-cons}
 use Rattle.std.proofs.Math.Seq.{take-length}
 use Rattle.plain_lists.proofs.Each.{all_both, all_weaker, all_flat_map, all_append_first}
-use Rattle.line_defs.specs.Rows.{is_newline, parts, onto_first, lines_of}
-use Rattle.scan_defs.specs.declared.Token.{Token}
-use Rattle.scan_defs.specs.Lines.{Line, lines_at, line_number, lines_from, is_indent}
-use Rattle.scan_defs.specs.Items.{Item, Header, Word, text_of, items_on, items_of, ahead, items, body}
+use Rattle.input_defs.specs.line_defs.Rows.{is_newline, parts, onto_first, lines_of}
+use Rattle.input_defs.specs.declared.scan_defs.Token.{Token}
+use Rattle.input_defs.specs.scan_defs.Lines.{Line, lines_at, line_number, lines_from, is_indent}
+use Rattle.input_defs.specs.scan_defs.Items.{Item, Header, Word, text_of, items_on, items_of, ahead, items, body}
 use Rattle.input_defs.specs.declared.MshFault.{MshFault}
 use Rattle.input_defs.specs.Bodies.{Lexeme, lexeme_of}
 use Rattle.input_defs.specs.Files.{Block, blocks_of, nothing, Opening, said, content}

@@ -6,11 +6,11 @@ use Rattle.std.proofs.lemmas.Bool.{and_parts, leb-true, eqb-true, cases_lt}
 use Rattle.std.proofs.lemmas.List.{drop-append-le, take-append-le, length-take}
 use Rattle.std.proofs.Math.Seq.{drop-append-add}
 use Rattle.plain_lists.proofs.Each.{all_map, all_weaker}
-use Rattle.line_defs.specs.Rows.{is_blank, is_newline, parts, onto_first, lines_of, is_some_bytes}
-use Rattle.scan_defs.specs.declared.Token.{Token}
-use Rattle.scan_defs.specs.Lines.{Line, lines_at, rest_of_line, front, back}
-use Rattle.scan_defs.specs.Items.{Item, Header, Word, text_of, is_header, name_of, tokens_at, tokens_on, words_on, items_on}
-use Rattle.scan_defs.specs.Quotes.{is_quoted, quoted_on, line_from}
+use Rattle.input_defs.specs.line_defs.Rows.{is_blank, is_newline, parts, onto_first, lines_of, is_some_bytes}
+use Rattle.input_defs.specs.declared.scan_defs.Token.{Token}
+use Rattle.input_defs.specs.scan_defs.Lines.{Line, lines_at, rest_of_line, front, back}
+use Rattle.input_defs.specs.scan_defs.Items.{Item, Header, Word, text_of, is_header, name_of, tokens_at, tokens_on, words_on, items_on}
+use Rattle.input_defs.specs.scan_defs.Quotes.{is_quoted, quoted_on, line_from}
 use Rattle.input_defs.specs.Bodies.{Lexeme, lexeme_of}
 
 -- a front is not longer than the list

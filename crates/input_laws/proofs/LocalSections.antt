@@ -1,9 +1,9 @@
 -- The bodies of all sections are read locally.
 use Rattle.std.proofs.Common.{◌≡◌, ℕ, zero, suc, ◌-◌, Bool, true, false, cond, not, ◌||◌, ◌==◌, nat_le, List, [], ◌∷◌, Ok, Err, ℤ, pos, negsuc, refl, sym, ap, ◌∙◌}
 use Rattle.std.specs.Prelude.{Result, is_some, ok_or}
-use Rattle.scan_defs.specs.declared.NumberFault.{NumberFault}
-use Rattle.scan_defs.specs.declared.NumberFault.TheVariants as numbers
-use Rattle.scan_defs.specs.Numbers.{uint_of, int_of, fixed_of, decimal_of}
+use Rattle.input_defs.specs.declared.scan_defs.NumberFault.{NumberFault}
+use Rattle.input_defs.specs.declared.scan_defs.NumberFault.TheVariants as numbers
+use Rattle.input_defs.specs.scan_defs.Numbers.{uint_of, int_of, fixed_of, decimal_of}
 use Rattle.mesh_defs.specs.declared.Place.{Place}
 use Rattle.input_defs.specs.declared.What.{What}
 use Rattle.input_defs.specs.declared.What.TheVariants as what

@@ -7,8 +7,8 @@ use Rattle.std.proofs.lemmas.List.{length-append, length-map, map-append}
 use Rattle.plain_lists.specs.Lists.{same_list}
 use Rattle.plain_lists.proofs.Each.{all_weaker, all_append}
 use Rattle.plain_lists.proofs.Finding.{each_fails}
-use Rattle.line_defs.specs.Rows.{lines_of, tokens_of}
-use Rattle.line_defs.specs.Numbers.{number_of_digits}
+use Rattle.input_defs.specs.line_defs.Rows.{lines_of, tokens_of}
+use Rattle.input_defs.specs.line_defs.Numbers.{number_of_digits}
 use Rattle.plex_defs.specs.Fields.{AreRightDofs}
 use Rattle.input_defs.specs.declared.PlanFault.{PlanFault}
 use Rattle.input_defs.specs.declared.PlanFault.TheVariants.{Word, Ranks, NoPart, Overlap, Dofs, Steps}

@@ -8,8 +8,8 @@ use Rattle.plain_lists.proofs.Each.{all_weaker, all_append}
 use Rattle.mesh_defs.specs.declared.Place.{Place}
 use Rattle.mesh_defs.specs.declared.Place.TheVariants as place
 use Rattle.mesh_defs.specs.Mesh.{Mesh, Cell, Name, Row, Section}
-use Rattle.scan_defs.specs.Lines.{line_number}
-use Rattle.scan_defs.specs.Items.{items}
+use Rattle.input_defs.specs.scan_defs.Lines.{line_number}
+use Rattle.input_defs.specs.scan_defs.Items.{items}
 use Rattle.input_defs.specs.Content.{Node, Element, Content}
 use Rattle.input_defs.specs.declared.DataFault.{DataFault}
 use Rattle.input_defs.specs.declared.DataFault.TheVariants as data_fault

@@ -3,10 +3,10 @@ use Rattle.std.proofs.Common.{◌≡◌, ℕ, zero, suc, ◌*◌, ◌^◌, ◌�
 use Rattle.std.specs.Prelude.{nat_abs, Option, Some, None}
 use Rattle.std.proofs.lemmas.Bool.{leb-true}
 use Rattle.std.proofs.lemmas.Int.{ints}
-use Rattle.line_defs.specs.Numbers.{number_of_digits}
-use Rattle.scan_defs.specs.declared.NumberFault.{NumberFault}
-use Rattle.scan_defs.specs.declared.NumberFault.TheVariants.{NotNumber, OutOfRange}
-use Rattle.scan_defs.specs.Numbers.{Decimal, is_whole, is_minus, without_sign, with_sign, uint_of, int_of, magnitude, fixed_value, fixed_where, fixed_of, decimal_of}
+use Rattle.input_defs.specs.line_defs.Numbers.{number_of_digits}
+use Rattle.input_defs.specs.declared.scan_defs.NumberFault.{NumberFault}
+use Rattle.input_defs.specs.declared.scan_defs.NumberFault.TheVariants.{NotNumber, OutOfRange}
+use Rattle.input_defs.specs.scan_defs.Numbers.{Decimal, is_whole, is_minus, without_sign, with_sign, uint_of, int_of, magnitude, fixed_value, fixed_where, fixed_of, decimal_of}
 use Rattle.input_defs.specs.RightContent.{IsUnsigned, IsSigned, IsFixed}
 use Rattle.input_laws.proofs.Yields.{ok, ok-same}
 

@@ -7,7 +7,7 @@ use Rattle.std.proofs.lemmas.Int.{ints}
 use Rattle.plain_lists.proofs.Each.{all_weaker}
 use Rattle.mesh_defs.specs.declared.Place.{Place}
 use Rattle.mesh_defs.specs.Mesh.{Section}
-use Rattle.scan_defs.specs.Numbers.{uint_of, int_of, fixed_of}
+use Rattle.input_defs.specs.scan_defs.Numbers.{uint_of, int_of, fixed_of}
 use Rattle.input_defs.specs.Content.{Node}
 use Rattle.input_defs.specs.declared.What.{What}
 use Rattle.input_defs.specs.declared.What.TheVariants as what

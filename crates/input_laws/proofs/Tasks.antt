@@ -3,7 +3,7 @@ use Rattle.std.proofs.Common.{◌≡◌, ℕ, List, length, Option, Some, None, 
 use Rattle.std.specs.Prelude.{Result, codes, option_and_then, ok_or}
 use Rattle.mesh_defs.specs.Mesh.{Mesh}
 use Rattle.mesh_defs.specs.RightMesh.{IsRightMesh}
-use Rattle.text_defs.specs.Refusals.{words_refused}
+use Rattle.input_defs.specs.text_defs.Refusals.{words_refused}
 use Rattle.input_defs.specs.declared.MshFault.{MshFault}
 use Rattle.input_defs.specs.declared.Status.{Status}
 use Rattle.input_defs.specs.declared.Status.TheVariants as status

@@ -3,12 +3,20 @@
 //! Each function below does nothing: its contract is the law, and its proof is the law's.
 #![tactic(auto)]
 
+pub mod command_laws;
+pub mod made_laws;
+pub mod place_laws;
+pub mod reading_laws;
+pub mod sort_laws;
+pub mod word_laws;
+pub mod written_laws;
+
 ghost use Rattle.std.specs.Prelude.{◌≡◌, ◌<◌, ◌≤◌, ℕ, List, [], ◌∷◌, ◌++◌, length, take, Ok, Err, None, Some, Contains, map, find, true, Option};
 ghost use Rattle.std.specs.List.{AllByRecursion};
 ghost use Rattle.plain_lists.specs.Lists.{sorted, differ_as_sets};
 ghost use Rattle.mesh_defs.specs.Mesh.{Mesh, Cell, Mark};
 ghost use Rattle.mesh_defs.specs.RightMesh.{IsRightMesh};
-ghost use Rattle.line_defs.specs.Rows.{lines_of};
+ghost use Rattle.input_defs.specs.line_defs.Rows.{lines_of};
 ghost use Rattle.input_defs.specs.Content.{Element, Content};
 ghost use Rattle.input_defs.specs.declared.MshFault.{MshFault};
 ghost use Rattle.input_defs.specs.Files.{content};

@@ -12,10 +12,10 @@ use Rattle.local_points.specs.Cells.{AreFit}
 use Rattle.local_points.specs.Points.{local_points}
 use Rattle.rank_defs.specs.Ranks.{assigned}
 use Rattle.rank_defs.specs.Spread.{ScatterPart, PlainScatter, IsScatter, scatter_part, own_chart, labels}
-use Rattle.scatter_state.specs.Whole.{part_at}
-use Rattle.rank_points.specs.Seen.{part_sets, sets_on}
-use Rattle.rank_points.proofs.Own.{parts-count, part-is, parts-fit, part-points, part-few}
-use Rattle.part_labels.specs.Parts.{IsPartOf, IsSomePart}
+use Rattle.dist_state.specs.scatter_state.Whole.{part_at}
+use Rattle.interp_share.specs.rank_points.Seen.{part_sets, sets_on}
+use Rattle.interp_share.proofs.rank_points.Own.{parts-count, part-is, parts-fit, part-points, part-few}
+use Rattle.interp_share.specs.part_labels.Parts.{IsPartOf, IsSomePart}
 
 module _ (s : PlainScatter) (m : Mesh) (dofs : List (List ℕ)) (a : List ℕ) (n : ℕ) (is : IsScatter s m dofs a n) (r : ℕ) (low : r < length s.parts) where
   pub in-range : r < n

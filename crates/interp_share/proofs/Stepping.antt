@@ -6,8 +6,8 @@ use Rattle.mesh_defs.specs.Mesh.{Mesh}
 use Rattle.plex_defs.specs.Fields.{fields}
 use Rattle.rank_defs.specs.Ranks.{assigned}
 use Rattle.rank_defs.specs.Spread.{PlainScatter, IsScatter, own_chart}
-use Rattle.meeting_laws.proofs.Loops.{list_is, lists_count}
-use Rattle.rank_points.proofs.Own.{parts-count}
+use Rattle.rank_chart_laws.proofs.meeting_laws.Loops.{list_is, lists_count}
+use Rattle.interp_share.proofs.rank_points.Own.{parts-count}
 use Rattle.interp_share.specs.Known.{AreFields, AreAllFields}
 
 -- the next of what is left is the next of the whole

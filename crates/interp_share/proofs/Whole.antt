@@ -14,13 +14,13 @@ use Rattle.sf_defs.specs.Forest.{Forest}
 use Rattle.local_points.specs.Points.{local_points}
 use Rattle.rank_defs.specs.Ranks.{assigned}
 use Rattle.rank_defs.specs.Spread.{ScatterPart, PlainScatter, IsScatter, IsShared, scatter_part, shared_part, plain_scatter, plain_shared, own_chart, labels, coordinates_of, vertices_among, point_forest}
-use Rattle.share_laws.specs.Charts.{own_charts}
+use Rattle.rank_laws.specs.share_laws.Charts.{own_charts}
 use Rattle.rank_chart_laws.proofs.Given.{given-vertices, shared-vertices}
-use Rattle.scatter_state.specs.Whole.{part_at}
-use Rattle.shared_state.specs.Points.{PointData, joined_part, data_at}
-use Rattle.shared_state.specs.Whole.{shared_of, shared_parts, IsWholeShared}
-use Rattle.rank_points.specs.Seen.{Seen, seen_of, all_seen, sets_on}
-use Rattle.rank_points.proofs.Own.{parts-count, part-is}
+use Rattle.dist_state.specs.scatter_state.Whole.{part_at}
+use Rattle.dist_state.specs.shared_state.Points.{PointData, joined_part, data_at}
+use Rattle.dist_state.specs.shared_state.Whole.{shared_of, shared_parts, IsWholeShared}
+use Rattle.interp_share.specs.rank_points.Seen.{Seen, seen_of, all_seen, sets_on}
+use Rattle.interp_share.proofs.rank_points.Own.{parts-count, part-is}
 use Rattle.interp_share.specs.Known.{known}
 use Rattle.interp_share.proofs.Ranked.{in-range, local-is}
 

@@ -6,9 +6,9 @@ use Rattle.plex_defs.specs.Fields.{fields}
 use Rattle.rank_defs.specs.Ranks.{assigned}
 use Rattle.rank_defs.specs.Spread.{PlainScatter, IsScatter, own_chart, labels}
 use Rattle.local_points.specs.Points.{local_points}
-use Rattle.scatter_state.specs.Whole.{part_at}
-use Rattle.rank_points.specs.Seen.{sets_on, part_sets}
-use Rattle.shared_state.specs.Points.{PointData}
+use Rattle.dist_state.specs.scatter_state.Whole.{part_at}
+use Rattle.interp_share.specs.rank_points.Seen.{sets_on, part_sets}
+use Rattle.dist_state.specs.shared_state.Points.{PointData}
 
 -- what rank r knows: its faces and edges, and the sets, labels and words of the points of its own chart
 unfoldable pub known : Mesh → List (List ℕ) → List ℕ → ℕ → PointData

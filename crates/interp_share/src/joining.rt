@@ -3,16 +3,16 @@ ghost use Rattle.std.specs.Prelude.{◌≡◌, ◌<◌, ℕ, List, length, IfOk}
 ghost use Rattle.plain_lists.specs.Vectors.{lists_of};
 ghost use Rattle.mesh_defs.specs.Mesh.{Mesh};
 ghost use Rattle.rank_defs.specs.Spread.{IsScatter};
-ghost use Rattle.scatter_state.specs.Whole.{part_at};
-ghost use Rattle.rank_points.specs.Seen.{all_seen, part_sets, seen_of};
+ghost use Rattle.dist_state.specs.scatter_state.Whole.{part_at};
+ghost use Rattle.interp_share.specs.rank_points.Seen.{all_seen, part_sets, seen_of};
 ghost use Rattle.interp_share.specs.Known.{AreAllFields, AreFields, AreKnown, AreListed, IsKnown};
 
-use part_labels::part_labels;
+use crate::part_labels::part_labels;
+use crate::rank_points::SeenPoints;
+use dist_state::shared_state::{OwnPoints, Scatter};
 use plex_base::NoMemory;
 use plex_section::Field;
-use rank_points::SeenPoints;
 use sf_fabric::FlatLists;
-use shared_state::{OwnPoints, Scatter};
 use std::alloc::Global;
 use std::mem;
 

@@ -5,7 +5,14 @@
 mod joining;
 mod listing;
 mod locals;
+pub mod own_field_laws;
+pub mod part_fields;
+pub mod part_labels;
+pub mod part_weights;
+pub mod point_meeting;
+pub mod rank_fields;
+pub mod rank_points;
 mod sharing;
 
-pub use shared_state::{OwnPoints, Scatter, Shared};
+pub use dist_state::shared_state::{OwnPoints, Scatter, Shared};
 pub use sharing::share;

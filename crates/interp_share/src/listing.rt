@@ -3,15 +3,15 @@ ghost use Rattle.std.specs.Prelude.{◌≡◌, ◌<◌, ℕ, List, length, IfOk,
 ghost use Rattle.mesh_defs.specs.Mesh.{Mesh};
 ghost use Rattle.rank_defs.specs.Spread.{IsScatter};
 ghost use Rattle.local_points.specs.Cells.{AreFit};
-ghost use Rattle.scatter_state.specs.Whole.{part_at};
-ghost use Rattle.rank_points.specs.Seen.{all_seen, part_sets};
+ghost use Rattle.dist_state.specs.scatter_state.Whole.{part_at};
+ghost use Rattle.interp_share.specs.rank_points.Seen.{all_seen, part_sets};
 ghost use Rattle.interp_share.specs.Known.{AreListed};
 
+use crate::rank_points::{SeenPoints, point_sets};
+use dist_state::shared_state::Scatter;
 use plex_base::NoMemory;
-use rank_points::{SeenPoints, point_sets};
 use rank_run::{RankWork, each_rank};
 use sf_fabric::FlatLists;
-use shared_state::Scatter;
 use std::alloc::Global;
 use std::thread::Threads;
 

@@ -1,10 +1,10 @@
 //! The faces and edges that each rank sees.
 ghost use Rattle.std.specs.Prelude.{map};
-ghost use Rattle.rank_points.specs.Seen.{Seen};
+ghost use Rattle.interp_share.specs.rank_points.Seen.{Seen};
 
+use crate::part_fields::RankLocals;
+use crate::rank_points::SeenPoints;
 use local_points::LocalPoints;
-use part_fields::RankLocals;
-use rank_points::SeenPoints;
 
 /// Of what ranks see the faces and edges.
 #[derive(Drop)]

@@ -6,12 +6,12 @@ ghost use Rattle.rank_defs.specs.Spread.{IsScatter, IsShared};
 use crate::joining::all_points;
 use crate::listing::list_all;
 use crate::locals::SeenLocals;
-use part_fields::all_fields;
+use crate::part_fields::all_fields;
+use crate::point_meeting::mesh_forest;
+use crate::rank_points::see_all;
+use dist_state::shared_state::{Scatter, Shared};
 use plex_base::NoMemory;
-use point_meeting::mesh_forest;
-use rank_points::see_all;
 use sf_fabric::Fabric;
-use shared_state::{Scatter, Shared};
 use std::alloc::Global;
 use std::thread::Threads;
 

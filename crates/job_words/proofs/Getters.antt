@@ -9,7 +9,7 @@ use Rattle.clap.specs.Matches.{first_value, matched_of, raw_values}
 use Rattle.clap.specs.Walk.{Row, Text, rows_of, texts}
 use Rattle.clap.specs.declared.parser.matches.Found.{Found}
 use Rattle.clap.proofs.WalkLemmas.{first_value-rows, raw_values-rows}
-use Rattle.command_laws.specs.Command.{both_asked, flag_at, plan_of, request_at, source_of, values_at}
+use Rattle.input_laws.specs.command_laws.Command.{both_asked, flag_at, plan_of, request_at, source_of, values_at}
 use Rattle.input_defs.specs.Words.{Source, request_of}
 use Rattle.job_words.specs.Asking.{texts_in}
 

@@ -10,8 +10,8 @@ use Rattle.clap.specs.declared.error.Error.{Error}
 use Rattle.clap.specs.declared.error.kind.ErrorKind.{ErrorKind}
 use Rattle.clap.specs.declared.error.kind.ErrorKind.TheVariants.{OutOfMemory}
 use Rattle.input_defs.specs.Words.{request}
-use Rattle.command_laws.specs.Command.{command, is_dashes, passes, request_at, request_by}
-use Rattle.command_laws.proofs.SideBySide.{reads_request}
+use Rattle.input_laws.specs.command_laws.Command.{command, is_dashes, passes, request_at, request_by}
+use Rattle.input_laws.proofs.command_laws.SideBySide.{reads_request}
 
 among : (kind : ErrorKind) (kinds : Kinds) → IsAmong kind kinds → passes kinds ≡ false
 among kind [] a = absurd a

@@ -7,9 +7,9 @@ use Rattle.std.specs.Option.{unwrap_or}
 use Rattle.std.proofs.lemmas.Bool.{cases_lt, le-ltb, lt-ltb, le-leb, lt-leb, leb-false, ne_eqb, cond-true, cond-false}
 use Rattle.std.proofs.lemmas.List.{drop_all, take_all, take_rest}
 use Rattle.std.proofs.lemmas.List.Sums.{prefix_len-le-length}
-use Rattle.line_defs.specs.Numbers.{is_digit, number_of_digits}
-use Rattle.scan_defs.specs.Numbers.{uint_of}
-use Rattle.scan_defs.specs.declared.NumberFault.{NumberFault}
+use Rattle.input_defs.specs.line_defs.Numbers.{is_digit, number_of_digits}
+use Rattle.input_defs.specs.scan_defs.Numbers.{uint_of}
+use Rattle.input_defs.specs.declared.scan_defs.NumberFault.{NumberFault}
 use Rattle.input_defs.specs.declared.Kind.{Kind}
 use Rattle.input_defs.specs.declared.Kind.TheVariants.{Tri, Quad, Tet, Hex}
 use Rattle.input_defs.specs.Words.{Made, made_of_size, most}

@@ -7,7 +7,7 @@ use Rattle.clap.specs.Simple.{matches_of}
 use Rattle.clap.specs.Walk.{rows_of, texts}
 use Rattle.std.specs.Option.{option_map_or}
 use Rattle.clap.specs.declared.parser.matches.ArgMatches.{ArgMatches}
-use Rattle.command_laws.specs.Command.{command, passes}
+use Rattle.input_laws.specs.command_laws.Command.{command, passes}
 use Rattle.input_defs.specs.declared.Kind.{Kind}
 use Rattle.input_defs.specs.Words as words
 use Rattle.job_words.specs.declared.asked.Source.{Source}

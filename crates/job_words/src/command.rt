@@ -4,7 +4,7 @@ ghost use Rattle.std.specs.Prelude.{◌≡◌, ◌≢◌, map, string_bytes, IfO
 ghost use Rattle.clap.specs.Simple.{app_of};
 ghost use Rattle.clap.specs.Values.{kind_of};
 ghost use Rattle.clap.specs.declared.error.kind.ErrorKind.TheVariants.{OutOfMemory};
-ghost use Rattle.command_laws.specs.Command.{command};
+ghost use Rattle.input_laws.specs.command_laws.Command.{command};
 ghost use Rattle.job_words.specs.Asking.{IsMatched};
 
 use clap::error::ErrorKind;

@@ -4,7 +4,7 @@ ghost use Rattle.std.specs.Prelude.{◌≡◌, map, option_and_then, option_map,
 ghost use Rattle.std.specs.List.{list_any};
 ghost use Rattle.clap.specs.Matches.{found_of};
 ghost use Rattle.clap.specs.Walk.{is_empty, rows_of};
-ghost use Rattle.command_laws.specs.Command.{both_asked, file_of, flag_at, is_dashes, plan_of, request_at, source_of};
+ghost use Rattle.input_laws.specs.command_laws.Command.{both_asked, file_of, flag_at, is_dashes, plan_of, request_at, source_of};
 ghost use Rattle.input_defs.specs.Words.{made_of, request, request_of};
 ghost use Rattle.job_words.specs.Asking.{request_view, source_view, text_of, texts_in};
 

@@ -19,8 +19,8 @@ use Rattle.input_defs.specs.Content.{Element, Content}
 use Rattle.input_defs.specs.RightContent.{IsRight}
 use Rattle.input_defs.specs.Meshes.{vertex_nodes, cell_elements, cell_of, cells_of, mesh_of, accepted, is_labelled, is_point_of, point_of_element, mark_of, marks_of}
 use Rattle.input_laws.proofs.RightAccepted.{right-accepted}
-use Rattle.place_laws.specs.Places.{element_at}
-use Rattle.place_laws.proofs.Firsts.{take-next}
+use Rattle.input_laws.specs.place_laws.Places.{element_at}
+use Rattle.input_laws.proofs.place_laws.Firsts.{take-next}
 use Rattle.mesh_check.specs.Partly.{coordinates, partly}
 
 -- ---- cells

@@ -13,7 +13,7 @@ use Rattle.input_defs.specs.Content.{Content}
 use Rattle.input_defs.specs.RightContent.{IsRight, IsRightField, element_numbers}
 use Rattle.input_defs.specs.Meshes.{cells_of, mesh_of, accepted, section_on as section_on_mesh}
 use Rattle.input_laws.proofs.RightAccepted.{right-accepted}
-use Rattle.data_rows.specs.Naming.{KnowsElements, is_on_elements, has_element_data}
+use Rattle.mesh_check.specs.data_rows.Naming.{KnowsElements, is_on_elements, has_element_data}
 use Rattle.mesh_check.specs.Partly.{coordinates}
 
 -- what passes in a list

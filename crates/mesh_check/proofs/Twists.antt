@@ -5,7 +5,7 @@ use Rattle.std.specs.List.{AllPairs, list_any, position_or_len, slice_get}
 use Rattle.std.specs.Cmp.Lexicographic.{same_text}
 use Rattle.std.proofs.lemmas.Bool.{cond-true, or_left, or_right, and_parts, eq-eqb, ne_eqb, both_ways}
 use Rattle.std.proofs.lemmas.List.Folds.{list_any-append}
-use Rattle.element_places.proofs.Steps.{element-is}
+use Rattle.mesh_check.proofs.element_places.Steps.{element-is}
 use Rattle.std.proofs.lemmas.Map.Keys.{IsDistinct-head, IsDistinct-tail}
 use Rattle.plain_lists.specs.Lists.{sorted}
 use Rattle.plain_lists.proofs.Each.{all_at}
@@ -19,9 +19,9 @@ use Rattle.input_defs.specs.RightContent.{NumbersDiffer, IsRight, IsRightElement
 use Rattle.input_defs.specs.Meshes.{poly, dim, greatest_dim, same_nodes, same_place, first_at, is_twisted}
 use Rattle.mesh_defs.specs.Orientation.{relative}
 use Rattle.input_laws.proofs.Kept.{same_place-refl}
-use Rattle.place_laws.specs.Places.{element_at}
-use Rattle.place_laws.proofs.Keys.{length-sorted}
-use Rattle.place_laws.proofs.Firsts.{split-at, take-next}
+use Rattle.input_laws.specs.place_laws.Places.{element_at}
+use Rattle.input_laws.proofs.place_laws.Keys.{length-sorted}
+use Rattle.input_laws.proofs.place_laws.Firsts.{split-at, take-next}
 
 -- ---- one element
 

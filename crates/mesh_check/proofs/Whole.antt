@@ -7,7 +7,7 @@ use Rattle.input_defs.specs.Content.{Node, Element, Content}
 use Rattle.input_defs.specs.RightContent.{IsRight}
 use Rattle.input_defs.specs.Meshes.{greatest_dim, vertex_nodes, kept, kept_after, cells_of, marks_of, loose_elements, section_on, mesh_of, accepted}
 use Rattle.input_laws.proofs.RightAccepted.{right-accepted}
-use Rattle.place_laws.proofs.Firsts.{kept-few}
+use Rattle.input_laws.proofs.place_laws.Firsts.{kept-few}
 use Rattle.mesh_check.specs.Partly.{coordinates}
 
 -- cells have dimension 2 or 3

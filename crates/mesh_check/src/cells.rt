@@ -4,9 +4,9 @@ ghost use Rattle.std.specs.Prelude.{◌≡◌, [], Ok, OnOk};
 ghost use Rattle.input_defs.specs.Meshes.{vertex_nodes, cells_of, mesh_of, accepted};
 ghost use Rattle.mesh_check.specs.Partly.{partly, coordinates};
 
+use crate::element_places::{ElementPlaces, poly_of_type};
+use crate::mesh_vertices::Vertices;
 use crate::positions::put_positions;
-use element_places::{ElementPlaces, poly_of_type};
-use mesh_vertices::Vertices;
 use plex_base::NoMemory;
 use plex_mesh::MeshBuilder;
 use std::alloc::Global;

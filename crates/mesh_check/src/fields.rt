@@ -3,12 +3,12 @@
 ghost use Rattle.std.specs.Prelude.{◌≡◌, [], map, true, Ok, IfOk, OnOk};
 ghost use Rattle.input_defs.specs.RightContent.{element_numbers as numbers_of};
 ghost use Rattle.input_defs.specs.Meshes.{vertex_nodes, cells_of, section_on, mesh_of, accepted};
-ghost use Rattle.data_rows.specs.Naming.{has_element_data};
+ghost use Rattle.mesh_check.specs.data_rows.Naming.{has_element_data};
 ghost use Rattle.mesh_check.specs.Partly.{coordinates};
 
-use data_rows::{element_numbers, field_on_mesh, needs_element_numbers};
-use element_places::ElementPlaces;
-use mesh_vertices::{NumberTable, Vertices};
+use crate::data_rows::{element_numbers, field_on_mesh, needs_element_numbers};
+use crate::element_places::ElementPlaces;
+use crate::mesh_vertices::{NumberTable, Vertices};
 use msh_reader::MshText;
 use plex_base::NoMemory;
 use plex_mesh::MeshBuilder;

@@ -4,9 +4,14 @@
 //! [`accept`] gives exactly that.
 #![tactic(auto)]
 
+pub mod accepted_laws;
 mod cells;
+pub mod data_rows;
+pub mod element_places;
+pub mod element_points;
 mod fields;
 mod marks;
+pub mod mesh_vertices;
 mod names;
 mod positions;
 mod top;

@@ -4,9 +4,9 @@ ghost use Rattle.std.specs.Prelude.{◌≡◌, ◌==◌, ◌&&◌, [], map, nat_
 ghost use Rattle.input_defs.specs.Meshes.{vertex_nodes, cells_of, marks_of, point_of_element, is_point_of};
 ghost use Rattle.mesh_check.specs.Partly.{partly, coordinates};
 
+use crate::element_places::{ElementPlaces, dim_of_type};
+use crate::mesh_vertices::Vertices;
 use crate::positions::put_positions;
-use element_places::{ElementPlaces, dim_of_type};
-use mesh_vertices::Vertices;
 use plex_base::NoMemory;
 use plex_mesh::MeshBuilder;
 use std::alloc::Global;

@@ -3,7 +3,7 @@
 ghost use Rattle.std.specs.Prelude.{◌≡◌, map, OnOk};
 ghost use Rattle.input_defs.specs.Meshes.{vertex_of};
 
-use mesh_vertices::Vertices;
+use crate::mesh_vertices::Vertices;
 use plex_base::NoMemory;
 
 /// The position of a node among the vertices, past the last one for a node that is no vertex.

@@ -4,15 +4,15 @@ ghost use Rattle.std.specs.Prelude.{◌≡◌, ◌≢◌, Ok, Err, IfOk, IfErr};
 ghost use Rattle.input_defs.specs.Meshes.{mesh_of, accepted};
 
 use crate::cells::add_cells;
+use crate::element_places::ElementPlaces;
+use crate::element_points::{count_loose, on_points};
 use crate::fields::add_fields;
 use crate::marks::add_marks;
+use crate::mesh_vertices::Vertices;
 use crate::names::add_names;
 use crate::verdict::fault_of;
 use crate::vertices::add_vertices;
-use element_places::ElementPlaces;
-use element_points::{count_loose, on_points};
 use input_defs::MeshFault;
-use mesh_vertices::Vertices;
 use msh_reader::MshText;
 use plex_base::NoMemory;
 use plex_mesh::{Mesh, MeshBuilder};

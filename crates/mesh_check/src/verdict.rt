@@ -4,9 +4,9 @@ ghost use Rattle.std.specs.Prelude.{◌≡◌, ◌<◌, ◌&&◌, length, nat_eq
 ghost use Rattle.mesh_defs.specs.Orientation.{relative};
 ghost use Rattle.plex_base.specs.Dim.{dim_number};
 ghost use Rattle.input_defs.specs.Meshes.{poly, dim, greatest_dim, is_twisted, twist, mesh_of, accepted};
-ghost use Rattle.place_laws.specs.Places.{element_at};
+ghost use Rattle.input_laws.specs.place_laws.Places.{element_at};
 
-use element_places::{ElementPlaces, dim_of_type, poly_of_type};
+use crate::element_places::{ElementPlaces, dim_of_type, poly_of_type};
 use input_defs::MeshFault;
 use plex_base::MAX_CELLS;
 use poly_orient::relative;

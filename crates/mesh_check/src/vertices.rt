@@ -3,7 +3,7 @@
 ghost use Rattle.std.specs.Prelude.{◌≡◌, [], map, OnOk};
 ghost use Rattle.input_defs.specs.Content.{Node};
 
-use mesh_vertices::Vertices;
+use crate::mesh_vertices::Vertices;
 use plex_base::NoMemory;
 use plex_mesh::MeshBuilder;
 

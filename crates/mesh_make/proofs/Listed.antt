@@ -9,8 +9,8 @@ use Rattle.input_defs.specs.declared.Kind.{Kind}
 use Rattle.input_defs.specs.declared.Kind.TheVariants.{Tri, Quad, Tet, Hex}
 use Rattle.input_defs.specs.Words.{most}
 use Rattle.input_defs.specs.Generated.{GridPoint, poly_of, layers, cuts, grid, grid_points, grid_cells, corners_at, cells_at, made}
-use Rattle.made_laws.proofs.Grids.{length-grid}
-use Rattle.made_laws.proofs.Made.{points-count, cells-count, right-made}
+use Rattle.input_laws.proofs.made_laws.Grids.{length-grid}
+use Rattle.input_laws.proofs.made_laws.Made.{points-count, cells-count, right-made}
 use Rattle.plex_mesh.proofs.Right.{same_set-turn}
 use Rattle.mesh_make.specs.Spots.{no_point, partly}
 use Rattle.mesh_make.proofs.Spots.{get_or-each, layer-below}

@@ -7,8 +7,8 @@ use Rattle.std.proofs.lemmas.List.Concat.{get_or-flat_map}
 use Rattle.plain_lists.specs.Lists.{below}
 use Rattle.plain_lists.proofs.Below.{length-below, get_or-below, get_or-map-below}
 use Rattle.input_defs.specs.Generated.{grid}
-use Rattle.made_laws.proofs.Rising.{length-each}
-use Rattle.made_laws.proofs.Grids.{spot}
+use Rattle.input_laws.proofs.made_laws.Rising.{length-each}
+use Rattle.input_laws.proofs.made_laws.Grids.{spot}
 use Rattle.mesh_make.specs.Spots.{no_point}
 
 -- element j of pieces of one length

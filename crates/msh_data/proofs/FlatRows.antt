@@ -5,15 +5,15 @@ use Rattle.std.specs.List.{AllByRecursion}
 use Rattle.std.proofs.lemmas.List.{append-nil, length-append}
 use Rattle.std.proofs.Math.Seq.{take-append_seam, drop-append_seam}
 use Rattle.std.proofs.Math.Nat.{zero-mul, suc-mul}
-use Rattle.scan_defs.specs.Items.{Spot}
+use Rattle.input_defs.specs.scan_defs.Items.{Spot}
 use Rattle.mesh_defs.specs.Mesh.{Row}
 use Rattle.input_defs.specs.declared.DataFault.{DataFault}
 use Rattle.input_defs.specs.Bodies.{Lexeme, Faults, Reader, give, read_on, ◌>>=◌, many, fixed}
 use Rattle.input_defs.specs.DataSections.{row}
 use Rattle.plex_base.specs.FlatRows.{with_rows}
 use Rattle.plex_base.specs.DataFields.{rows_of_values}
-use Rattle.reading_laws.specs.Going.{repeated, Goes}
-use Rattle.reading_laws.proofs.Readers.{same, bind-same, bind-pull, bind-assoc, bind-ok, many-onto, many-length, many-all}
+use Rattle.input_laws.specs.reading_laws.Going.{repeated, Goes}
+use Rattle.input_laws.proofs.reading_laws.Readers.{same, bind-same, bind-pull, bind-assoc, bind-ok, many-onto, many-length, many-all}
 use Rattle.msh_data.specs.Pieces.{known_number, Flat, row_onto}
 
 abbrev pub no_rows : Flat

@@ -1,16 +1,16 @@
 -- A whole data section by its pieces.
 use Rattle.std.proofs.Common.{◌≡◌, ◌≢◌, ℕ, ◌-◌, List, [], Ok, Err, sym, ap, ◌∙◌}
-use Rattle.scan_defs.specs.Items.{Spot}
-use Rattle.scan_defs.specs.Numbers.{int_of}
+use Rattle.input_defs.specs.scan_defs.Items.{Spot}
+use Rattle.input_defs.specs.scan_defs.Numbers.{int_of}
 use Rattle.mesh_defs.specs.declared.Place.{Place}
 use Rattle.mesh_defs.specs.Mesh.{Section}
 use Rattle.input_defs.specs.declared.DataFault.{DataFault}
 use Rattle.input_defs.specs.declared.DataFault.TheVariants.{BadCount, NoMemory}
 use Rattle.input_defs.specs.Bodies.{Reader, give, ◌>>=◌, many, tested, uint, int, quoted}
 use Rattle.input_defs.specs.DataSections.{faults_at, real, comps_on, rows_on, row, section, section_of}
-use Rattle.reading_laws.specs.Lexemes.{lexemes, beyond, end_line}
-use Rattle.reading_laws.specs.Going.{passed, first_of, end_of_body, closed, Goes}
-use Rattle.reading_laws.proofs.Readers.{bind-same, bind-assoc, bind-pull, first-used, passed-used, whole-ok, whole-err}
+use Rattle.input_laws.specs.reading_laws.Lexemes.{lexemes, beyond, end_line}
+use Rattle.input_laws.specs.reading_laws.Going.{passed, first_of, end_of_body, closed, Goes}
+use Rattle.input_laws.proofs.reading_laws.Readers.{bind-same, bind-assoc, bind-pull, first-used, passed-used, whole-ok, whole-err}
 use Rattle.msh_data.specs.declared.head.Shape.{Shape}
 use Rattle.msh_data.specs.Pieces.{field_name, reals, int_count, shape}
 

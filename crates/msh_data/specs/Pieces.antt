@@ -1,13 +1,13 @@
 -- The pieces of a data section, as it is read: its name, its real tags, its shape, its rows.
 use Rattle.std.specs.Prelude.{ℕ, ◌-◌, nat_le, List, [], ◌∷◌, ◌++◌, ℤ}
-use Rattle.scan_defs.specs.Numbers.{uint_of, int_of}
+use Rattle.input_defs.specs.scan_defs.Numbers.{uint_of, int_of}
 use Rattle.input_defs.specs.declared.DataFault.{DataFault}
 use Rattle.input_defs.specs.declared.DataFault.TheVariants.{BadCount, UnknownNumber}
 use Rattle.input_defs.specs.Causes.{ok_where}
 use Rattle.input_defs.specs.Bodies.{Reader, give, ◌>>=◌, many, tested, uint, int, fixed, quoted}
 use Rattle.input_defs.specs.Sections.{has_number}
 use Rattle.input_defs.specs.DataSections.{real, comps_on, rows_on}
-use Rattle.reading_laws.specs.Going.{passed, first_of, onto}
+use Rattle.input_laws.specs.reading_laws.Going.{passed, first_of, onto}
 use Rattle.msh_data.specs.declared.head.Shape.{Shape}
 use Rattle.msh_data.specs.declared.rows.Rows.{Rows}
 

@@ -3,14 +3,14 @@
 ghost use Rattle.std.specs.Prelude.{◌≡◌, ◌≤◌, [], IfOk};
 ghost use Rattle.input_defs.specs.Causes.{map_ok};
 ghost use Rattle.input_defs.specs.DataSections.{comps_on, rows_on};
-ghost use Rattle.scan_defs.specs.Numbers.{int_of};
+ghost use Rattle.input_defs.specs.scan_defs.Numbers.{int_of};
 ghost use Rattle.input_defs.specs.Bodies.{tested, quoted};
-ghost use Rattle.reading_laws.specs.Going.{first_of, Goes};
+ghost use Rattle.input_laws.specs.reading_laws.Going.{first_of, Goes};
 ghost use Rattle.msh_data.specs.Pieces.{field_name, reals, int_count, shape};
 
+use crate::msh_body::{int, quoted, uint};
 use crate::passing::{pass_ints, pass_reals, pass_texts};
 use input_defs::DataFault;
-use msh_body::{int, quoted, uint};
 use scan::Scan;
 use std::alloc::Global;
 

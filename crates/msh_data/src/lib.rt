@@ -7,6 +7,7 @@
 
 mod head;
 mod known;
+pub mod msh_body;
 mod passing;
 mod rows;
 mod section;

@@ -2,10 +2,10 @@
 
 ghost use Rattle.input_defs.specs.Bodies.{many, int, quoted};
 ghost use Rattle.input_defs.specs.DataSections.{real};
-ghost use Rattle.reading_laws.specs.Going.{passed, Goes};
+ghost use Rattle.input_laws.specs.reading_laws.Going.{passed, Goes};
 
+use crate::msh_body::{int, pass_real, quoted};
 use input_defs::DataFault;
-use msh_body::{int, pass_real, quoted};
 use scan::Scan;
 
 /// Passes so many signed numbers.

@@ -5,13 +5,13 @@ ghost use Rattle.input_defs.specs.Bodies.{many, fixed};
 ghost use Rattle.input_defs.specs.Causes.{map_ok};
 ghost use Rattle.input_defs.specs.DataSections.{row};
 ghost use Rattle.plex_base.specs.DataFields.{rows_of_values};
-ghost use Rattle.reading_laws.specs.Going.{onto, ok_as, Goes};
+ghost use Rattle.input_laws.specs.reading_laws.Going.{onto, ok_as, Goes};
 ghost use Rattle.msh_data.specs.Pieces.{known_number, flat_of, row_onto};
 
 use crate::head::Shape;
 use crate::known::Numbers;
+use crate::msh_body::{fixed, uint};
 use input_defs::DataFault;
-use msh_body::{fixed, uint};
 use scan::Scan;
 use std::alloc::Global;
 

@@ -3,13 +3,13 @@
 ghost use Rattle.std.specs.Prelude.{◌≡◌, ◌≢◌, Ok, Err, IfOk, IfErr};
 ghost use Rattle.input_defs.specs.DataSections.{section_of};
 ghost use Rattle.plex_base.specs.DataFields.{section_on};
-ghost use Rattle.reading_laws.specs.Lexemes.{lexemes, beyond, end_line, at_end};
+ghost use Rattle.input_laws.specs.reading_laws.Lexemes.{lexemes, beyond, end_line, at_end};
 
 use crate::head::{field_name, int_tags, real_tags};
 use crate::known::Numbers;
+use crate::msh_body::end_of_body;
 use crate::rows::read_rows;
 use input_defs::DataFault;
-use msh_body::end_of_body;
 use plex_base::{DataField, Place};
 use scan::Scan;
 use std::alloc::Global;

@@ -7,11 +7,11 @@ use Rattle.input_defs.specs.declared.MshFault.TheVariants.{OutOfRange, RepeatedN
 use Rattle.input_defs.specs.Content.{Node}
 use Rattle.input_defs.specs.Causes.{ok_where}
 use Rattle.std.specs.Prelude.{not, if◌then◌else◌, ◌==◌, Err}
-use Rattle.scan_defs.specs.Numbers.{uint_of}
+use Rattle.input_defs.specs.scan_defs.Numbers.{uint_of}
 use Rattle.input_defs.specs.Bodies.{Reader, give, ◌>>=◌, tested, fixed}
 use Rattle.input_defs.specs.Sections.{has_number, node, nodes_after, corner, corners_after}
-use Rattle.reading_laws.specs.Going.{onto}
-use Rattle.reading_laws.proofs.Readers.{bind-same, bind-assoc, bind-give}
+use Rattle.input_laws.specs.reading_laws.Going.{onto}
+use Rattle.input_laws.proofs.reading_laws.Readers.{bind-same, bind-assoc, bind-give}
 use Rattle.msh_reader.proofs.NumberSets.{tested-same, has-more}
 
 -- the same numbers are in two lists

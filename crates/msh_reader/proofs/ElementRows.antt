@@ -4,17 +4,17 @@ use Rattle.std.specs.Prelude.{sum_by, is_some}
 use Rattle.std.specs.List.{slice_get}
 use Rattle.std.proofs.lemmas.List.{length-append, length-drop, take-append-drop}
 use Rattle.std.proofs.lemmas.List.Sums.{sum_by-cons, sum_by_push}
-use Rattle.scan_defs.specs.Items.{Spot}
-use Rattle.scan_defs.specs.Numbers.{uint_of}
+use Rattle.input_defs.specs.scan_defs.Items.{Spot}
+use Rattle.input_defs.specs.scan_defs.Numbers.{uint_of}
 use Rattle.input_defs.specs.declared.MshFault.{MshFault}
 use Rattle.input_defs.specs.declared.MshFault.TheVariants.{ElementType, NotMsh}
 use Rattle.input_defs.specs.Content.{Element}
 use Rattle.input_defs.specs.Causes.{ok_where}
 use Rattle.input_defs.specs.Bodies.{Reader, give, ◌>>=◌, tested, uint, int}
 use Rattle.input_defs.specs.Sections.{faults_of, poly_of_type, corners_of_type, corner, corners_after, element}
-use Rattle.reading_laws.specs.Lexemes.{lexemes}
-use Rattle.reading_laws.specs.Going.{first_of, onto}
-use Rattle.reading_laws.proofs.Readers.{bind-same, bind-pull, first-used, onto-length}
+use Rattle.input_laws.specs.reading_laws.Lexemes.{lexemes}
+use Rattle.input_laws.specs.reading_laws.Going.{first_of, onto}
+use Rattle.input_laws.proofs.reading_laws.Readers.{bind-same, bind-pull, first-used, onto-length}
 use Rattle.msh_reader.specs.declared.element_list.FileElement.{FileElement}
 use Rattle.msh_reader.specs.Going.{Goes}
 use Rattle.msh_reader.specs.Views.{width, element_view, element_views, LieInOrder, AreLaidOut, LiesAfter, physical}

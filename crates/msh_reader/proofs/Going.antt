@@ -1,9 +1,9 @@
 -- Calls one after the other, over the body of a section of a mesh file.
 use Rattle.std.proofs.Common.{◌≡◌, ◌≢◌, ℕ, suc, List, [], ◌∷◌, ◌++◌, Ok, Err, refl, sym, ap, subst, ◌∙◌}
 use Rattle.std.specs.Prelude.{Option, Some, None, Result}
-use Rattle.scan_defs.specs.Items.{Spot}
-use Rattle.scan_defs.specs.declared.NumberFault.{NumberFault}
-use Rattle.scan_defs.specs.declared.NumberFault.TheVariants as numbers
+use Rattle.input_defs.specs.scan_defs.Items.{Spot}
+use Rattle.input_defs.specs.declared.scan_defs.NumberFault.{NumberFault}
+use Rattle.input_defs.specs.declared.scan_defs.NumberFault.TheVariants as numbers
 use Rattle.input_defs.specs.declared.DataFault.{DataFault}
 use Rattle.input_defs.specs.declared.DataFault.TheVariants as data_fault
 use Rattle.input_defs.specs.declared.MshFault.{MshFault}
@@ -11,10 +11,10 @@ use Rattle.input_defs.specs.declared.MshFault.TheVariants.{BadCount}
 use Rattle.input_defs.specs.Bodies.{Lexeme, Reader, give, ◌>>=◌, many, tested, number, quoted, with_rest, number_where, text_where, after_line}
 use Rattle.input_defs.specs.Sections.{faults_of}
 use Rattle.input_defs.specs.DataSections.{faults_at}
-use Rattle.reading_laws.specs.Lexemes.{beyond, end_line}
-use Rattle.reading_laws.specs.Going.{lined, checked, passed, first_of, onto, repeated, end_of_body}
-use Rattle.reading_laws.specs.Going as data_going
-use Rattle.reading_laws.proofs.Readers.{then-ok, then-err, tested-lined, number-lined, passed-many, first-some}
+use Rattle.input_laws.specs.reading_laws.Lexemes.{beyond, end_line}
+use Rattle.input_laws.specs.reading_laws.Going.{lined, checked, passed, first_of, onto, repeated, end_of_body}
+use Rattle.input_laws.specs.reading_laws.Going as data_going
+use Rattle.input_laws.proofs.reading_laws.Readers.{then-ok, then-err, tested-lined, number-lined, passed-many, first-some}
 use Rattle.msh_reader.specs.declared.trouble.Trouble.{Trouble}
 use Rattle.msh_reader.specs.declared.trouble.Trouble.TheVariants.{Fault}
 use Rattle.msh_reader.specs.Going.{trouble_of, fault_where, no_memory, Goes, Resumes}

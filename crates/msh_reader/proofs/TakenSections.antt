@@ -2,8 +2,8 @@
 use Rattle.std.proofs.Common.{◌≡◌, ◌≢◌, ℕ, zero, suc, ◌-◌, ◌∷◌, ◌++◌, [], List, take, Bool, Ok, Err, refl, sym, ap, ◌∙◌, ◌≤◌, length, pos, arith}
 use Rattle.std.specs.Prelude.{Result, Some, is_some, not, get_or, nat_le, if◌then◌else◌}
 use Rattle.std.specs.List.{slice_get}
-use Rattle.scan_defs.specs.Items.{Spot}
-use Rattle.scan_defs.specs.Numbers.{uint_of, int_of}
+use Rattle.input_defs.specs.scan_defs.Items.{Spot}
+use Rattle.input_defs.specs.scan_defs.Numbers.{uint_of, int_of}
 use Rattle.mesh_defs.specs.declared.Place.{Place}
 use Rattle.mesh_defs.specs.Mesh.{Section}
 use Rattle.input_defs.specs.Content.{Element}
@@ -17,9 +17,9 @@ use Rattle.input_defs.specs.Bodies.{Lexeme, Reader, give, ◌>>=◌, many, teste
 use Rattle.input_defs.specs.Sections.{faults_of, has_number, count, poly_of_type, corners_of_type, corner, corners_after, element, elements}
 use Rattle.input_defs.specs.DataSections.{faults_at, real, comps_on, rows_on, row, section, section_of}
 use Rattle.input_defs.specs.Files.{of_data}
-use Rattle.reading_laws.specs.Lexemes.{lexemes, beyond, end_line}
-use Rattle.reading_laws.specs.Going.{closed}
-use Rattle.reading_laws.proofs.Readers.{bind-same, whole-ok, whole-err}
+use Rattle.input_laws.specs.reading_laws.Lexemes.{lexemes, beyond, end_line}
+use Rattle.input_laws.specs.reading_laws.Going.{closed}
+use Rattle.input_laws.proofs.reading_laws.Readers.{bind-same, whole-ok, whole-err}
 use Rattle.msh_reader.specs.declared.trouble.Trouble.{Trouble}
 use Rattle.msh_reader.specs.Going.{trouble_of, fault_where, no_memory, Goes}
 use Rattle.msh_reader.specs.Taking.{ReadsField, TakesField}

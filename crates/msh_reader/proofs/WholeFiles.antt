@@ -1,12 +1,12 @@
 -- What a file says, from its first header line to its end.
 use Rattle.std.proofs.Common.{◌≡◌, ◌≢◌, ℕ, List, [], length, Some, None, Ok, Err, refl, ap, ◌∙◌}
-use Rattle.scan_defs.specs.Items.{Spot}
-use Rattle.scan_defs.specs.Lines.{line_number}
+use Rattle.input_defs.specs.scan_defs.Items.{Spot}
+use Rattle.input_defs.specs.scan_defs.Lines.{line_number}
 use Rattle.input_defs.specs.declared.MshFault.{MshFault}
 use Rattle.input_defs.specs.Files.{Block, Known, known, Parts, nothing, Expected, Opening, Closing, misplaced, with_section, cut_short, finished, said, content}
-use Rattle.reading_laws.specs.Lexemes.{lexemes, beyond}
-use Rattle.reading_laws.specs.Blocks.{blocks, last_line}
-use Rattle.reading_laws.proofs.Blocks.{blocks-all, ending-is}
+use Rattle.input_laws.specs.reading_laws.Lexemes.{lexemes, beyond}
+use Rattle.input_laws.specs.reading_laws.Blocks.{blocks, last_line}
+use Rattle.input_laws.proofs.reading_laws.Blocks.{blocks-all, ending-is}
 use Rattle.msh_reader.specs.declared.trouble.Trouble.{Trouble}
 use Rattle.msh_reader.specs.Going.{fault_where, no_memory}
 use Rattle.msh_reader.specs.Taking.{TakesBody, said_after}

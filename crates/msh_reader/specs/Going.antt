@@ -1,14 +1,14 @@
 -- What a call reads that goes over a part of the body of a section. The fault of a body that ends too early hangs on the
 -- header line after it, so until that is read it may be any fault.
 use Rattle.std.specs.Prelude.{◌≡◌, ◌≢◌, Result, Ok, Err}
-use Rattle.scan_defs.specs.Items.{Spot}
+use Rattle.input_defs.specs.scan_defs.Items.{Spot}
 use Rattle.input_defs.specs.declared.DataFault.{DataFault}
 use Rattle.input_defs.specs.declared.DataFault.TheVariants as data_fault
 use Rattle.input_defs.specs.declared.MshFault.{MshFault}
 use Rattle.input_defs.specs.declared.MshFault.TheVariants.{BadNumber, BadCount, BadName, Components, UnknownNumber, OutOfRange, NoMemory}
 use Rattle.input_defs.specs.Bodies.{Reader}
 use Rattle.input_defs.specs.Sections.{faults_of}
-use Rattle.reading_laws.specs.Lexemes.{lexemes, beyond}
+use Rattle.input_laws.specs.reading_laws.Lexemes.{lexemes, beyond}
 use Rattle.msh_reader.specs.declared.trouble.Trouble.{Trouble}
 use Rattle.msh_reader.specs.declared.trouble.Trouble.TheVariants.{Fault, Ended}
 

@@ -1,14 +1,14 @@
 -- What was read of a file, and a section more.
 use Rattle.std.specs.Prelude.{◌≡◌, ◌≢◌, ℕ, List, ◌∷◌, option_map, Result, Ok, Err}
-use Rattle.scan_defs.specs.Items.{Spot}
+use Rattle.input_defs.specs.scan_defs.Items.{Spot}
 use Rattle.input_defs.specs.declared.MshFault.{MshFault}
 use Rattle.input_defs.specs.Files.{Parts, Known, Opening, of_data, with_section, said}
 use Rattle.input_defs.specs.Content.{Content}
 use Rattle.input_defs.specs.DataSections.{section_of}
 use Rattle.mesh_defs.specs.declared.Place.{Place}
 use Rattle.mesh_defs.specs.Mesh.{Section}
-use Rattle.reading_laws.specs.Lexemes.{lexemes, beyond, end_line}
-use Rattle.reading_laws.specs.Blocks.{blocks, last_line}
+use Rattle.input_laws.specs.reading_laws.Lexemes.{lexemes, beyond, end_line}
+use Rattle.input_laws.specs.reading_laws.Blocks.{blocks, last_line}
 use Rattle.msh_reader.specs.Headers.{block_of}
 use Rattle.msh_reader.specs.declared.trouble.Trouble.{Trouble}
 use Rattle.msh_reader.specs.declared.nodes.NodeList.{NodeList}

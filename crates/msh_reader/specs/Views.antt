@@ -2,7 +2,7 @@
 use Rattle.std.specs.Prelude.{◌≡◌, ℕ, ◌+◌, List, [], ◌∷◌, map, length, sum_by, ℤ, pos}
 use Rattle.input_defs.specs.declared.MshFault.{MshFault}
 use Rattle.input_defs.specs.Bodies.{Reader, ◌>>=◌, uint, int}
-use Rattle.reading_laws.specs.Going.{first_of}
+use Rattle.input_laws.specs.reading_laws.Going.{first_of}
 use Rattle.mesh_defs.specs.Mesh.{Name, Section}
 use Rattle.input_defs.specs.Content.{Node, Element, Content}
 use Rattle.input_defs.specs.Sections.{corners_of_type}

@@ -1,12 +1,12 @@
 //! The section Elements.
 
 ghost use Rattle.std.specs.Prelude.{◌≡◌, [], drop, take, length, is_some, IfOk};
-ghost use Rattle.scan_defs.specs.Numbers.{uint_of};
+ghost use Rattle.input_defs.specs.scan_defs.Numbers.{uint_of};
 ghost use Rattle.input_defs.specs.declared.MshFault.TheVariants.{ElementType};
 ghost use Rattle.input_defs.specs.Causes.{map_ok, ok_where};
 ghost use Rattle.input_defs.specs.Bodies.{tested};
 ghost use Rattle.input_defs.specs.Sections.{poly_of_type, corner, element, elements};
-ghost use Rattle.reading_laws.specs.Going.{onto, ok_as};
+ghost use Rattle.input_laws.specs.reading_laws.Going.{onto, ok_as};
 ghost use Rattle.msh_reader.specs.Going.{Goes};
 ghost use Rattle.msh_reader.specs.NumberSets.{numbers_of};
 ghost use Rattle.msh_reader.specs.Views.{element_view, LiesAfter, physical};
@@ -16,8 +16,8 @@ use crate::number_set::NumberSet;
 use crate::numbers::{count, first_int};
 use crate::trouble::Trouble;
 use input_defs::{MshFault, What};
-use msh_body::uint;
 use msh_data::Numbers;
+use msh_data::msh_body::uint;
 use plex_base::MAX_ELEMENTS;
 use scan::Scan;
 use std::alloc::Global;

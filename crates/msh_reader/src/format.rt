@@ -1,7 +1,7 @@
 //! The section MeshFormat.
 
 ghost use Rattle.std.specs.Prelude.{◌==◌};
-ghost use Rattle.scan_defs.specs.Numbers.{uint_of, fixed_of};
+ghost use Rattle.input_defs.specs.scan_defs.Numbers.{uint_of, fixed_of};
 ghost use Rattle.input_defs.specs.declared.MshFault.TheVariants.{Version, Binary};
 ghost use Rattle.input_defs.specs.Causes.{ok_where};
 ghost use Rattle.input_defs.specs.Bodies.{tested};
@@ -10,7 +10,7 @@ ghost use Rattle.msh_reader.specs.Going.{Goes};
 
 use crate::trouble::Trouble;
 use input_defs::MshFault;
-use msh_body::{fixed, uint};
+use msh_data::msh_body::{fixed, uint};
 use scan::Scan;
 
 /// The version 2.2, in 10^-10.

@@ -3,8 +3,8 @@
 ghost use Rattle.std.specs.Prelude.{◌≡◌, ◌<◌, [], ◌∷◌, length, option_map, Ok, Err, IfOk, IfErr};
 ghost use Rattle.plain_lists.specs.Lists.{same_list};
 ghost use Rattle.input_defs.specs.Files.{Parts, Opening, Closing, Skipping, known, closing, cut_short, is_wrong_header, said};
-ghost use Rattle.reading_laws.specs.Lexemes.{lexemes, beyond};
-ghost use Rattle.reading_laws.specs.Blocks.{blocks, last_line};
+ghost use Rattle.input_laws.specs.reading_laws.Lexemes.{lexemes, beyond};
+ghost use Rattle.input_laws.specs.reading_laws.Blocks.{blocks, last_line};
 ghost use Rattle.msh_reader.specs.Headers.{known_of, block_of};
 
 use input_defs::MshFault;

@@ -10,7 +10,7 @@ use crate::numbers::count;
 use crate::text::FileName;
 use crate::trouble::Trouble;
 use input_defs::What;
-use msh_body::{int, quoted, uint};
+use msh_data::msh_body::{int, quoted, uint};
 use plex_base::MAX_NAMES;
 use scan::Scan;
 use std::alloc::Global;

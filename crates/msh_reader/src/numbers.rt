@@ -4,12 +4,12 @@ ghost use Rattle.std.specs.Prelude.{pos};
 ghost use Rattle.input_defs.specs.declared.MshFault.TheVariants.{BadCount};
 ghost use Rattle.input_defs.specs.Bodies.{many, int};
 ghost use Rattle.input_defs.specs.Sections.{count};
-ghost use Rattle.reading_laws.specs.Going.{passed, first_of, end_of_body};
+ghost use Rattle.input_laws.specs.reading_laws.Going.{passed, first_of, end_of_body};
 ghost use Rattle.msh_reader.specs.Going.{Goes};
 
 use crate::trouble::Trouble;
 use input_defs::{MshFault, What};
-use msh_body::{int, uint};
+use msh_data::msh_body::{int, uint};
 use scan::Scan;
 
 /// How many there are of something, up to a limit.
@@ -49,6 +49,6 @@ pub fn first_int(scan: &mut Scan<'_>, count: u32) -> Result<i32, Trouble>
 pub fn end_of_body(scan: &mut Scan<'_>) -> Result<(), Trouble>
     ensures { Goes (end_of_body BadCount) scan.old result scan.new }
 {
-    msh_body::end_of_body(scan)?;
+    msh_data::msh_body::end_of_body(scan)?;
     Ok(())
 }

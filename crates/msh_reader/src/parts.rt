@@ -7,7 +7,7 @@ ghost use Rattle.input_defs.specs.Sections.{has_number, format, names, nodes, el
 ghost use Rattle.input_defs.specs.Files.{nothing, misplaced, unfinished, file_numbers};
 ghost use Rattle.mesh_defs.specs.declared.Place.TheVariants as place;
 ghost use Rattle.plex_base.specs.DataFields.{section_on};
-ghost use Rattle.reading_laws.specs.Going.{closed, ok_as};
+ghost use Rattle.input_laws.specs.reading_laws.Going.{closed, ok_as};
 ghost use Rattle.msh_reader.specs.Going.{Goes};
 ghost use Rattle.msh_reader.specs.NumberSets.{numbers_of};
 ghost use Rattle.msh_reader.specs.Views.{name_views, node_views, element_numbers};

@@ -4,8 +4,8 @@ ghost use Rattle.std.specs.Prelude.{◌≡◌, ◌≢◌, ◌<◌, ◌≤◌, []
 ghost use Rattle.input_defs.specs.Content.{Content};
 ghost use Rattle.input_defs.specs.RightContent.{IsRight};
 ghost use Rattle.input_defs.specs.Files.{Opening, known, said, finished, content_of, content, Parts as FileParts};
-ghost use Rattle.reading_laws.specs.Lexemes.{lexemes, beyond};
-ghost use Rattle.reading_laws.specs.Blocks.{blocks, last_line};
+ghost use Rattle.input_laws.specs.reading_laws.Lexemes.{lexemes, beyond};
+ghost use Rattle.input_laws.specs.reading_laws.Blocks.{blocks, last_line};
 ghost use Rattle.msh_reader.specs.Headers.{known_of};
 ghost use Rattle.msh_reader.specs.Views.{name_views, node_views};
 ghost use Rattle.msh_reader.specs.Taking.{parts_view, said_after};

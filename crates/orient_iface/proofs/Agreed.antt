@@ -5,9 +5,9 @@ use Rattle.std.specs.List.{AllByRecursion}
 use Rattle.std.proofs.lemmas.List.{length-map}
 use Rattle.rank_defs.specs.Ranks.{least}
 use Rattle.plex_base.specs.declared.key.PointKey.{PointKey}
-use Rattle.rank_drawings.specs.Told.{PlainDrawing}
-use Rattle.dist_assembly.specs.Drawn.{twist_in}
-use Rattle.iface_twist.specs.Least.{numbers, greatest, AreOwnKeys}
+use Rattle.rank_cones.specs.rank_drawings.Told.{PlainDrawing}
+use Rattle.orient_iface.specs.dist_assembly.Drawn.{twist_in}
+use Rattle.orient_iface.specs.iface_twist.Least.{numbers, greatest, AreOwnKeys}
 use Rattle.orient_iface.specs.Drawn.{AreOfSome}
 
 -- one for each of 1 to 64 ranks, and far below the greatest word

@@ -5,8 +5,8 @@ use Rattle.mesh_defs.specs.RightMesh.{IsRightMesh}
 use Rattle.mesh_defs.specs.Diagram.{twist_key}
 use Rattle.rank_defs.specs.Ranks.{IsRightAssignment}
 use Rattle.rank_defs.specs.Spread.{PlainShared, PlainDist, IsDist}
-use Rattle.rank_drawings.specs.Told.{PlainDrawing, AreDrawings}
-use Rattle.iface_arrangements.specs.Keyed.{AreKeyed}
+use Rattle.rank_cones.specs.rank_drawings.Told.{PlainDrawing, AreDrawings}
+use Rattle.orient_iface.specs.iface_arrangements.Keyed.{AreKeyed}
 use Rattle.orient_iface.specs.declared.orienting.OrientFault.{OrientFault}
 use Rattle.orient_iface.specs.declared.orienting.OrientFault.TheVariants.{Twist, NoMemory}
 

@@ -5,19 +5,19 @@ ghost use Rattle.std.specs.List.{AllByRecursion};
 ghost use Rattle.plain_lists.specs.Vectors.{lists_of};
 ghost use Rattle.mesh_defs.specs.Mesh.{Mesh};
 ghost use Rattle.mesh_defs.specs.Diagram.{twist_key};
-ghost use Rattle.rank_drawings.specs.Told.{AreDrawings};
-ghost use Rattle.dist_assembly.specs.Drawn.{twist_in};
-ghost use Rattle.iface_twist.specs.Least.{number_of};
-ghost use Rattle.iface_arrangements.specs.Keyed.{AreKeyed, AreSomeKeyed};
+ghost use Rattle.rank_cones.specs.rank_drawings.Told.{AreDrawings};
+ghost use Rattle.orient_iface.specs.dist_assembly.Drawn.{twist_in};
+ghost use Rattle.orient_iface.specs.iface_twist.Least.{number_of};
+ghost use Rattle.orient_iface.specs.iface_arrangements.Keyed.{AreKeyed, AreSomeKeyed};
 ghost use Rattle.orient_iface.specs.Drawn.{AreOfMesh, AreOfSome};
 
-use dist_assembly::own_twists;
-use iface_arrangements::arrangements;
-use iface_twist::least_twist;
+use crate::dist_assembly::own_twists;
+use crate::iface_arrangements::arrangements;
+use crate::iface_twist::least_twist;
+use dist_state::shared_state::Shared;
 use plex_base::{NoMemory, PointKey};
-use rank_drawings::{Drawing, draw_all};
+use rank_cones::rank_drawings::{Drawing, draw_all};
 use sf_fabric::Fabric;
-use shared_state::Shared;
 use std::alloc::Global;
 use std::thread::Threads;
 

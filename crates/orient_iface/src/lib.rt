@@ -5,6 +5,11 @@
 #![tactic(auto)]
 
 mod agreeing;
+pub mod dist_assembly;
+pub mod iface_arrangements;
+pub mod iface_keys;
+pub mod iface_twist;
+pub mod moved_points;
 mod orienting;
 
 pub use orienting::{OrientFault, orient};

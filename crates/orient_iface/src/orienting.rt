@@ -7,19 +7,19 @@ ghost use Rattle.sf_defs.specs.Rounds.{Round as Record};
 ghost use Rattle.sf_fabric.specs.Kept.{kept_with};
 ghost use Rattle.rank_defs.specs.Home.{IsHomeRound};
 ghost use Rattle.rank_defs.specs.Spread.{IsShared, IsDist};
-ghost use Rattle.iface_arrangements.specs.Keyed.{AreSomeKeyed};
+ghost use Rattle.orient_iface.specs.iface_arrangements.Keyed.{AreSomeKeyed};
 ghost use Rattle.plain_lists.specs.Vectors.{lists_of};
 ghost use Rattle.orient_iface.specs.declared.orienting.OrientFault.TheVariants.{NoMemory as orient_no_memory};
 ghost use Rattle.orient_iface.specs.Faults.{IsFault};
 ghost use Rattle.orient_iface.specs.Drawn.{IsDistOfAll, IsTwistOfAll};
 
 use crate::agreeing::{agreed_twist, drawings};
-use dist_assembly::assemble;
+use crate::dist_assembly::assemble;
+use crate::iface_keys::home_keys;
 use dist_state::Dist;
-use iface_keys::home_keys;
+use dist_state::shared_state::Shared;
 use plex_base::{NoMemory, PointKey};
 use sf_fabric::{Fabric, Round};
-use shared_state::Shared;
 use std::alloc::Global;
 use std::thread::Threads;
 

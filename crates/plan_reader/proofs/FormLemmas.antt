@@ -9,9 +9,9 @@ use Rattle.std.proofs.Math.Nat.{pow-le-pow_right}
 use Rattle.plain_lists.specs.Lists.{same_list}
 use Rattle.plain_lists.proofs.Finding.{same_tests}
 use Rattle.plain_lists.proofs.Sorted.{same_list-turn}
-use Rattle.line_defs.specs.Numbers.{is_digit, number_of_digits}
-use Rattle.scan_defs.specs.Numbers.{uint_of}
-use Rattle.scan_defs.proofs.Huge.{number_of_digits-lt}
+use Rattle.input_defs.specs.line_defs.Numbers.{is_digit, number_of_digits}
+use Rattle.input_defs.specs.scan_defs.Numbers.{uint_of}
+use Rattle.input_defs.proofs.scan_defs.Huge.{number_of_digits-lt}
 use Rattle.input_defs.specs.Plans.{Form, IsRanks, form_of, with_number, is_number, plan_numbers, dofs_of, show_of}
 use Rattle.plan_reader.specs.Reading.{number_of, sole_number}
 

@@ -6,7 +6,7 @@ use Rattle.std.proofs.lemmas.Bool.{cases_lt, le-ltb, lt-ltb, cond-true, cond-fal
 use Rattle.std.proofs.lemmas.List.{drop_more, drop_all, take_all, take_rest, length-take}
 use Rattle.std.proofs.lemmas.List.Sums.{passes_at_first, fails_before_first, prefix_len-le-length}
 use Rattle.std.proofs.lemmas.List.Splits.{slice_split_first, slice_split_none}
-use Rattle.line_defs.specs.Rows.{is_blank, is_newline, onto_first, parts, is_some_bytes, lines_of, tokens_of}
+use Rattle.input_defs.specs.line_defs.Rows.{is_blank, is_newline, onto_first, parts, is_some_bytes, lines_of, tokens_of}
 
 -- the place that `position` found, or the length
 pub place_or_length : (test : ℕ → Bool) (bs : List ℕ) (found : Option ℕ) (n : ℕ) → found ≡ cond (ltb (position_or_len test bs) (length bs)) (Some (position_or_len test bs)) None → n ≡ unwrap_or found (length bs) → n ≡ position_or_len test bs

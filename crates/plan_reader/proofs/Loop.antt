@@ -2,7 +2,7 @@
 use Rattle.std.proofs.Common.{◌≡◌, ◌≢◌, ℕ, ◌+◌, ◌≤◌, List, [], ◌∷◌, length, Option, Some, None, Ok, Err, refl, sym, ap, ◌∙◌, arith}
 use Rattle.std.specs.Prelude.{Result, IfOk, IfErr, IfSome, option_map}
 use Rattle.std.specs.Borrow.{Bor}
-use Rattle.line_defs.specs.Rows.{lines_of, tokens_of}
+use Rattle.input_defs.specs.line_defs.Rows.{lines_of, tokens_of}
 use Rattle.input_defs.specs.declared.PlanFault.{PlanFault}
 use Rattle.input_defs.specs.declared.PlanFault.TheVariants.{NoMemory}
 use Rattle.input_defs.specs.Causes.{map_ok}

@@ -1,7 +1,7 @@
 -- Reading a plan: what is kept of it, and what a call of the reader returned.
 use Rattle.std.specs.Prelude.{◌≡◌, ◌≢◌, ℕ, if◌then◌else◌, List, [], ◌∷◌, length, map, Option, Some, None, Result, Ok, Err}
-use Rattle.line_defs.specs.Rows.{lines_of}
-use Rattle.line_defs.specs.Numbers.{number_of_digits}
+use Rattle.input_defs.specs.line_defs.Rows.{lines_of}
+use Rattle.input_defs.specs.line_defs.Numbers.{number_of_digits}
 use Rattle.input_defs.specs.declared.PlanFault.{PlanFault}
 use Rattle.input_defs.specs.declared.PlanFault.TheVariants.{NoMemory}
 use Rattle.input_defs.specs.Plans as plans

@@ -3,7 +3,7 @@
 ghost use Rattle.std.specs.Prelude.{◌≡◌, ◌<◌, ◌^◌, ◌||◌, [], ◌∷◌, ◌++◌, length, nat_le, nat_lt, not, Ok, Some};
 ghost use Rattle.std.specs.List.{list_all, list_any};
 ghost use Rattle.plain_lists.specs.Lists.{same_list};
-ghost use Rattle.line_defs.specs.Rows.{tokens_of};
+ghost use Rattle.input_defs.specs.line_defs.Rows.{tokens_of};
 ghost use Rattle.input_defs.specs.Causes.{map_ok};
 ghost use Rattle.input_defs.specs.Plans.{IsRanks, IsMove, IsDofs, Part, Layers, before_any_line, with_form, with_line, plan_with, is_field_name, is_letter, both};
 ghost use Rattle.plan_reader.specs.Reading.{Gives, ok_as, form_view, spread_view};

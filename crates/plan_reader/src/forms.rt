@@ -1,7 +1,7 @@
 //! The forms of a line.
 
 ghost use Rattle.std.specs.Prelude.{◌≡◌, ◌<◌, ◌^◌, length, codes, option_map, IfOk, IfSome};
-ghost use Rattle.line_defs.specs.Rows.{tokens_of};
+ghost use Rattle.input_defs.specs.line_defs.Rows.{tokens_of};
 ghost use Rattle.input_defs.specs.Plans.{form_of, part_of, dofs_of, show_of, IsMove, Part};
 ghost use Rattle.plan_reader.specs.Reading.{form_view, spread_view};
 ghost use Rattle.plan_reader.specs.Drafts.{HasFewLayers};

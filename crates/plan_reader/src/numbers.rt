@@ -1,7 +1,7 @@
 //! Numbers of plans.
 
 ghost use Rattle.std.specs.Prelude.{◌≡◌, ◌<◌, ◌≤◌, ◌^◌, length, option_map, IfOk, IfSome};
-ghost use Rattle.line_defs.specs.Rows.{tokens_of};
+ghost use Rattle.input_defs.specs.line_defs.Rows.{tokens_of};
 ghost use Rattle.input_defs.specs.Plans.{plan_numbers};
 ghost use Rattle.plan_reader.specs.Reading.{number_of, sole_number};
 

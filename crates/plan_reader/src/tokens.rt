@@ -2,7 +2,7 @@
 
 ghost use Rattle.std.specs.Prelude.{◌≡◌, ◌<◌, ◌≤◌, ◌≢◌, ◌+◌, [], ◌∷◌, length, not, option_map, MatchOption, IfSome};
 ghost use Rattle.std.specs.List.{position_or_len};
-ghost use Rattle.line_defs.specs.Rows.{is_blank, is_newline, lines_of, tokens_of};
+ghost use Rattle.input_defs.specs.line_defs.Rows.{is_blank, is_newline, lines_of, tokens_of};
 ghost use Rattle.plan_reader.specs.Reading.{lines_left};
 
 /// Whether a byte stands between tokens: blank, tab and CR.

@@ -5,7 +5,7 @@ use Rattle.std.proofs.Math.Dec.{eqb-suc-zero}
 use Rattle.std.proofs.lemmas.Bool.{eqb-true, eq-eqb, lt-ltb, le-ltb}
 use Rattle.std.proofs.lemmas.List.{length-take, take_more, take_all}
 use Rattle.std.proofs.lemmas.Grind.{flat_map-append}
-use Rattle.text_defs.specs.Text.{end_line}
+use Rattle.input_defs.specs.text_defs.Text.{end_line}
 use Rattle.sf_defs.specs.Rounds.{Round}
 use Rattle.input_defs.specs.Further.{full_head}
 use Rattle.input_defs.specs.States.{State, states, first_ranks, before_any_step}

@@ -4,7 +4,7 @@ use Rattle.std.specs.Prelude.{Contains, ◌⊎◌}
 use Rattle.cause_defs.specs.Told.{Told}
 use Rattle.cause_defs.specs.declared.ReportFault.{ReportFault}
 use Rattle.cause_defs.specs.Faults.{Rises, FailsTake}
-use Rattle.text_defs.specs.Refusals.{read_refused}
+use Rattle.input_defs.specs.text_defs.Refusals.{read_refused}
 use Rattle.sf_defs.specs.Rounds.{Round}
 use Rattle.input_defs.specs.declared.Status.{Status}
 use Rattle.input_defs.specs.declared.Status.TheVariants.{Done, Words, Plan, ReadFault, WriteFault, NoMemory, TooLong}
@@ -16,9 +16,9 @@ use Rattle.report.specs.declared.refusal.Refusal as declared
 use Rattle.report.specs.declared.refusal.Refusal.TheVariants as refusal
 use Rattle.report.specs.Refusals.{refusal_line, refusal_status}
 use Rattle.report.specs.Delivery.{Delivers}
-use Rattle.job_task.specs.Reading as reading
-use Rattle.job_task.specs.Reading.{Gives, refusal_view}
-use Rattle.job_task.proofs.Giving.{some-files}
+use Rattle.plex_job.specs.job_task.Reading as reading
+use Rattle.plex_job.specs.job_task.Reading.{Gives, refusal_view}
+use Rattle.plex_job.proofs.job_task.Giving.{some-files}
 use Rattle.plex_job.specs.Seen.{just, seen, seen_alone}
 use Rattle.plex_job.specs.Statuses.{ending}
 use Rattle.plex_job.proofs.Endings.{none-first, failed-cause, rose, refuses}

@@ -10,7 +10,7 @@ use Rattle.cause_defs.specs.declared.ReportFault.{ReportFault}
 use Rattle.cause_defs.specs.declared.ReportFault.TheVariants.{NoMemory}
 use Rattle.cause_defs.specs.Reports.{Reports}
 use Rattle.cause_defs.proofs.Reporting.{Reports-none, Reports-then, Reports-exit, Reports-no_memory}
-use Rattle.text_defs.specs.Text.{end_line}
+use Rattle.input_defs.specs.text_defs.Text.{end_line}
 use Rattle.sf_defs.specs.declared.Tag.TheVariants.{Number}
 use Rattle.sf_defs.specs.Rounds.{Round}
 use Rattle.sf_fabric.specs.Kept.{kept_as, kept_with}

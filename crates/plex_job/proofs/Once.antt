@@ -16,7 +16,7 @@ use Rattle.input_defs.specs.States.{State, states, states_after, after_move, bef
 use Rattle.input_laws.proofs.ReadPlans.{plan-read}
 use Rattle.input_laws.proofs.Assignments.{steps-right, first_part-right}
 use Rattle.headline_defs.specs.Rounds.{Due, Keys, Numbers, due, AreFirst, AreAll}
-use Rattle.job_task.specs.Reading.{IsBuilt}
+use Rattle.plex_job.specs.job_task.Reading.{IsBuilt}
 use Rattle.plex_job.specs.Once.{IsPartBy, IsSpreadOnce, IsHome, IsDrawn}
 use Rattle.plex_job.proofs.OneRank.{assigned-one}
 

@@ -6,11 +6,11 @@ use Rattle.std.specs.List.{list_all, position_or_len}
 use Rattle.std.proofs.lemmas.Bool.{leb-false, leb-true, le-leb}
 use Rattle.std.proofs.lemmas.List.{take_rest}
 use Rattle.std.proofs.Math.Nat.{pow-le-pow_right}
-use Rattle.line_defs.specs.Rows.{parts}
-use Rattle.line_defs.specs.Numbers.{is_digit, number_of_digits, numeral}
-use Rattle.scan_defs.specs.declared.NumberFault.TheVariants.{OutOfRange, NotNumber}
-use Rattle.scan_defs.specs.Numbers.{uint_of}
-use Rattle.scan_defs.proofs.Huge.{number_of_digits-lt}
+use Rattle.input_defs.specs.line_defs.Rows.{parts}
+use Rattle.input_defs.specs.line_defs.Numbers.{is_digit, number_of_digits, numeral}
+use Rattle.input_defs.specs.declared.scan_defs.NumberFault.TheVariants.{OutOfRange, NotNumber}
+use Rattle.input_defs.specs.scan_defs.Numbers.{uint_of}
+use Rattle.input_defs.proofs.scan_defs.Huge.{number_of_digits-lt}
 use Rattle.headline_defs.specs.Picks.{and_more}
 use Rattle.plan_reader.proofs.Lines.{parts_first, parts_none}
 use Rattle.plex_job.specs.Pieces.{before_others}

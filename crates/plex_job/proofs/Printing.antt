@@ -18,14 +18,14 @@ use Rattle.input_defs.specs.States.{states, first_ranks, before_any_step}
 use Rattle.input_defs.specs.Further.{full_head}
 use Rattle.headline_defs.specs.StepText.{Subject, step_lines}
 use Rattle.plan_reader.specs.Drafts.{counts_of}
-use Rattle.step_defs.specs.Numbers.{held_numbers}
-use Rattle.step_defs.specs.Steps.{plain_step}
-use Rattle.step_laws.specs.Printed.{IsPrinted, rounds_of}
-use Rattle.step_laws.proofs.Fits.{locals-many, numbers-many, numbers-each, owners-fit, roots-many, leaves-many}
-use Rattle.step_laws.proofs.Step.{step-text}
+use Rattle.walk_defs.specs.step_defs.Numbers.{held_numbers}
+use Rattle.walk_defs.specs.step_defs.Steps.{plain_step}
+use Rattle.headline_laws.specs.step_laws.Printed.{IsPrinted, rounds_of}
+use Rattle.headline_laws.proofs.step_laws.Fits.{locals-many, numbers-many, numbers-each, owners-fit, roots-many, leaves-many}
+use Rattle.headline_laws.proofs.step_laws.Step.{step-text}
 use Rattle.step_report.specs.Conditions.{FitsRanks, CanPrint, no_local}
 use Rattle.dist_number.specs.Drawn.{Drawn}
-use Rattle.job_task.specs.Reading.{task_view}
+use Rattle.plex_job.specs.job_task.Reading.{task_view}
 use Rattle.plex_job.specs.declared.spreading.Spreading.{Spreading}
 use Rattle.plex_job.specs.Once.{IsSpreadOnce, state_at}
 use Rattle.plex_job.specs.Begun.{before_step}

@@ -4,7 +4,7 @@ use Rattle.std.proofs.lemmas.List.{take_rest}
 use Rattle.std.specs.List.{AllByRecursion}
 use Rattle.cause_defs.specs.Told.{Told}
 use Rattle.cause_defs.specs.declared.ReportFault.{ReportFault}
-use Rattle.text_defs.specs.Refusals.{words_refused}
+use Rattle.input_defs.specs.text_defs.Refusals.{words_refused}
 use Rattle.sf_defs.specs.Rounds.{Round}
 use Rattle.input_defs.specs.declared.Status.{Status}
 use Rattle.input_defs.specs.declared.Status.TheVariants.{Words, NoMemory}

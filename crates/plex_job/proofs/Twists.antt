@@ -9,8 +9,8 @@ use Rattle.mesh_defs.specs.Mesh.{Mesh, Cell, placed_cells}
 use Rattle.mesh_defs.specs.Points.{Sight, cell_faces}
 use Rattle.mesh_defs.specs.Diagram.{twist_key}
 use Rattle.mesh_defs.specs.RightMesh.{IsRightMesh}
-use Rattle.diagram_laws.specs.Strata.{face_sights}
-use Rattle.diagram_laws.proofs.Twists.{twist-is}
+use Rattle.rank_laws.specs.diagram_laws.Strata.{face_sights}
+use Rattle.rank_laws.proofs.diagram_laws.Twists.{twist-is}
 use Rattle.report.specs.Refusals.{IsFaceKey}
 
 face_key : (c f : ℕ) → f ≤ 5 → IsFaceKey (64 * c + 1 + f)

@@ -3,7 +3,7 @@ use Rattle.std.specs.Prelude.{◌≡◌, ℕ, ◌≤◌, Bool, ◌==◌, if◌th
 use Rattle.std.specs.List.{AllByRecursion}
 use Rattle.cause_defs.specs.declared.ReportFault.{ReportFault}
 use Rattle.cause_defs.specs.Reports.{Reports}
-use Rattle.text_defs.specs.Text.{end_line}
+use Rattle.input_defs.specs.text_defs.Text.{end_line}
 use Rattle.sf_defs.specs.Rounds.{Round}
 use Rattle.input_defs.specs.Further.{full_head}
 use Rattle.input_defs.specs.States.{states}

@@ -6,3 +6,5 @@ pub mod Begun
 pub mod Spreading
 pub mod Picked
 pub mod Pieces
+pub mod job_task
+pub mod value_words

@@ -1,6 +1,6 @@
 -- What is left of a list of picks.
 use Rattle.std.specs.Prelude.{ℕ, ◌==◌, List, [], ◌++◌, Option, Some, None, option_map}
-use Rattle.line_defs.specs.Rows.{parts}
+use Rattle.input_defs.specs.line_defs.Rows.{parts}
 
 -- the parts of what is left, if anything is
 abbrev pub parts_left : Option (List ℕ) → List (List ℕ)

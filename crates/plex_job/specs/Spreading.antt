@@ -11,13 +11,13 @@ use Rattle.input_defs.specs.Refused.{Task}
 use Rattle.input_defs.specs.States.{first_ranks}
 use Rattle.headline_defs.specs.Headline.{subject_of}
 use Rattle.headline_defs.specs.StepText.{Subject}
-use Rattle.step_defs.specs.Words.{FitsWords}
+use Rattle.walk_defs.specs.step_defs.Words.{FitsWords}
 use Rattle.input_defs.specs.declared.Step.TheVariants as step
-use Rattle.step_defs.specs.Steps.{Printed}
-use Rattle.step_defs.specs.Numbers.{held_numbers}
+use Rattle.walk_defs.specs.step_defs.Steps.{Printed}
+use Rattle.walk_defs.specs.step_defs.Numbers.{held_numbers}
 use Rattle.dist_number.specs.Drawn.{Drawn, drawn_in}
 use Rattle.plan_reader.specs.Drafts.{counts_of}
-use Rattle.job_task.specs.Reading.{task_view, IsBuilt}
+use Rattle.plex_job.specs.job_task.Reading.{task_view, IsBuilt}
 use Rattle.plex_job.specs.declared.spreading.Spreading.{Spreading}
 use Rattle.plex_job.specs.Once.{IsHome, IsDrawn}
 

@@ -3,23 +3,23 @@ ghost use Rattle.std.specs.Prelude.{◌≡◌, IfOk, IfErr};
 ghost use Rattle.rank_defs.specs.Spread.{IsShared};
 ghost use Rattle.input_defs.specs.States.{first_ranks};
 ghost use Rattle.plan_reader.specs.Drafts.{counts_of};
-ghost use Rattle.job_task.specs.Reading.{task_view, IsBuilt};
+ghost use Rattle.plex_job.specs.job_task.Reading.{task_view, IsBuilt};
 ghost use Rattle.plex_job.specs.Homes.{KeepsHome, IsSpreadFault};
 ghost use Rattle.plex_job.specs.Spreading.{IsDistOf, IsSpread};
 
+use crate::job_task::Task;
 use crate::spreading::Spreading;
+use crate::value_words::words_fit;
+use dist_number::dist_trace::first_trace;
 use dist_seed::seed;
 use dist_state::Dist;
-use dist_trace::first_trace;
+use dist_state::shared_state::Shared;
 use interp_share::share;
-use job_task::Task;
 use orient_iface::{OrientFault, orient};
 use plex_base::NoMemory;
 use sf_fabric::{Fabric, Round};
-use shared_state::Shared;
 use std::alloc::Global;
 use std::thread::Threads;
-use value_words::words_fit;
 
 /// What the ranks of the plan's first part have of the mesh once they have met.
 fn met<R: Threads + Sync, F: Fabric>(

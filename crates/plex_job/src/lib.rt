@@ -7,12 +7,14 @@
 
 mod distributing;
 mod ending;
+pub mod job_task;
 mod picked;
 mod picks;
 mod running;
 mod spreading;
 mod steps;
 mod top;
+pub mod value_words;
 
 pub use input_defs::Status;
 pub use top::{job, replay};

@@ -3,8 +3,8 @@ ghost use Rattle.std.specs.Prelude.{◌≡◌, []};
 ghost use Rattle.plex_job.specs.Picked.{told_before};
 
 use plex_base::NoMemory;
+use sf_fabric::script::ScriptFabric;
 use sf_fabric::{Ask, Fabric, Round, Tag};
-use sf_script::ScriptFabric;
 
 /// A fabric that goes by picks.
 ///

@@ -1,8 +1,8 @@
 //! Picks: whose turn it is, one after another.
 ghost use Rattle.std.specs.Prelude.{◌≡◌, ◌≤◌, ◌==◌, ◌&&◌, ◌∷◌, not, length, get_or, option_map, IfOk};
 ghost use Rattle.std.specs.List.{position_or_len};
-ghost use Rattle.line_defs.specs.Rows.{parts};
-ghost use Rattle.line_defs.specs.Numbers.{numeral};
+ghost use Rattle.input_defs.specs.line_defs.Rows.{parts};
+ghost use Rattle.input_defs.specs.line_defs.Numbers.{numeral};
 ghost use Rattle.headline_defs.specs.Picks.{numerals, picks_of};
 ghost use Rattle.plex_job.specs.Pieces.{parts_left};
 

@@ -1,14 +1,14 @@
 //! A task from its home round to its last line.
 ghost use Rattle.std.specs.Prelude.{◌≡◌, true, Ok};
 ghost use Rattle.headline_defs.specs.Headline.{Headline};
-ghost use Rattle.job_task.specs.Reading.{task_view, IsBuilt};
+ghost use Rattle.plex_job.specs.job_task.Reading.{task_view, IsBuilt};
 ghost use Rattle.plex_job.specs.Seen.{just, seen_alone};
 ghost use Rattle.plex_job.specs.Statuses.{UnlessWriteFault, UnlessAnswer};
 
 use crate::distributing::spread_mesh;
 use crate::ending::ending;
+use crate::job_task::Task;
 use input_defs::Status;
-use job_task::Task;
 use orient_iface::OrientFault;
 use report::{Refusal, write_refusal};
 use sf_fabric::Fabric;

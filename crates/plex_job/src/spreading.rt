@@ -9,11 +9,11 @@ ghost use Rattle.plex_job.specs.Once.{state_at};
 ghost use Rattle.plex_job.specs.Begun.{before_step};
 ghost use Rattle.plex_job.specs.Spreading.{IsSpread, IsStepOf, printed, printed_at};
 
+use crate::job_task::Task;
 use cause_defs::ReportFault;
 use dist_number::{Bases, Numbers};
 use dist_state::Dist;
 use input_defs::{Show, Step};
-use job_task::Task;
 use report::write_head;
 use sf_fabric::Round;
 use sf_graph::Forest;

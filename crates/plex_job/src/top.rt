@@ -7,11 +7,11 @@ ghost use Rattle.plex_job.specs.Seen.{seen, seen_replay, Replays};
 ghost use Rattle.plex_job.specs.Statuses.{UnlessFault, UnlessWriteFault, UnlessAnswer};
 
 use crate::ending::ending;
+use crate::job_task::{Stop, read_task};
 use crate::picked::PickedFabric;
 use crate::picks::read_picks;
 use crate::running::perform;
 use input_defs::Status;
-use job_task::{Stop, read_task};
 use plex_base::NoMemory;
 use report::{Refusal, write_refusal};
 use sf_fabric::Fabric;

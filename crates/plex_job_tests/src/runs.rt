@@ -3,7 +3,7 @@
 use crate::files::ONE_TRIANGLE;
 use plex_job::{Status, job};
 use sf_fabric::Fabric;
-use sf_script::ScriptFabric;
+use sf_fabric::script::ScriptFabric;
 use sf_threads::{NoGate, ThreadFabric};
 use shelf_io::{MemoryShelf, MemorySink};
 use std::alloc::{AllocError, Global};

@@ -11,9 +11,9 @@ use Rattle.plex_defs.proofs.Meshes.{three_triangles}
 use Rattle.rank_defs.specs.Ranks.{IsRightAssignment, assigned, ranks_at, owner}
 use Rattle.rank_defs.specs.Spread.{ScatterPart, own_chart, own_stratum, point_forest, scatter_part, vertices_among}
 use Rattle.rank_defs.proofs.RightRows.{right-assignment}
-use Rattle.share_laws.specs.Charts.{first_holder, own_charts, points_of}
-use Rattle.meeting_laws.specs.Sets.{AreRankCharts}
-use Rattle.meeting_laws.proofs.RightCharts.{right-charts}
+use Rattle.rank_laws.specs.share_laws.Charts.{first_holder, own_charts, points_of}
+use Rattle.rank_chart_laws.specs.meeting_laws.Sets.{AreRankCharts}
+use Rattle.rank_chart_laws.proofs.meeting_laws.RightCharts.{right-charts}
 use Rattle.rank_chart_laws.specs.OwnRanks.{own_rank_chart, own_rank_charts}
 
 -- rank 0 has the first triangle, rank 1 the two at its sides

@@ -15,9 +15,9 @@ use Rattle.mesh_defs.specs.Points.{Point, same_point}
 use Rattle.mesh_laws.proofs.Firsts.{same_point-self}
 use Rattle.sf_defs.specs.declared.Leaf.{Leaf}
 use Rattle.sf_defs.specs.Forest.{leaf}
-use Rattle.share_laws.specs.Charts.{first_holder, first_home, forest_of_charts}
-use Rattle.meeting_laws.specs.Sets.{filled, RankChart, no_chart, chart_at, lower_sets, point_count, has_set, first_with, place_with, home_of, set_leaves, forest_of_sets}
-use Rattle.meeting_laws.proofs.Lists.{enumerated_below, chosen_enumerated, chosen_same, passes_below, passes_at}
+use Rattle.rank_laws.specs.share_laws.Charts.{first_holder, first_home, forest_of_charts}
+use Rattle.rank_chart_laws.specs.meeting_laws.Sets.{filled, RankChart, no_chart, chart_at, lower_sets, point_count, has_set, first_with, place_with, home_of, set_leaves, forest_of_sets}
+use Rattle.rank_chart_laws.proofs.meeting_laws.Lists.{enumerated_below, chosen_enumerated, chosen_same, passes_below, passes_at}
 
 abbrev pub fill : Point → List ℕ
 fill p = filled p.vertices

@@ -13,11 +13,11 @@ use Rattle.mesh_defs.specs.Diagram.{stratum, chart}
 use Rattle.mesh_defs.specs.RightMesh.{IsFlatOrSolid, IsSoundMesh, in_some}
 use Rattle.rank_defs.specs.Ranks.{assigned, owner}
 use Rattle.rank_defs.specs.Spread.{vertices_among, scatter_part, own_stratum, own_chart}
-use Rattle.share_laws.specs.Charts.{vertex_point}
-use Rattle.share_laws.proofs.Own.{own-of_dim}
-use Rattle.orient_laws.specs.Named.{chart_stratum}
-use Rattle.orient_laws.proofs.ByKey.{chart-strata}
-use Rattle.orient_laws.proofs.Seen.{stratum-own}
+use Rattle.rank_laws.specs.share_laws.Charts.{vertex_point}
+use Rattle.rank_laws.proofs.share_laws.Own.{own-of_dim}
+use Rattle.rank_laws.specs.orient_laws.Named.{chart_stratum}
+use Rattle.rank_laws.proofs.orient_laws.ByKey.{chart-strata}
+use Rattle.rank_laws.proofs.orient_laws.Seen.{stratum-own}
 use Rattle.rank_chart_laws.specs.OwnRanks.{own_vertices, own_rank_chart}
 
 is_vertex : Sight → Bool

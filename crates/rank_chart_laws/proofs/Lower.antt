@@ -20,18 +20,18 @@ use Rattle.mesh_defs.specs.RightMesh.{IsSoundCell, IsSoundMesh, CellsDiffer, in_
 use Rattle.mesh_laws.proofs.Firsts.{same_point-true, firsts-all}
 use Rattle.mesh_laws.proofs.Turns.{sorted-one}
 use Rattle.mesh_laws.proofs.Containing.{all_sights_of}
-use Rattle.diagram_laws.proofs.Edges.{picked-below}
+use Rattle.rank_laws.proofs.diagram_laws.Edges.{picked-below}
 use Rattle.rank_defs.specs.Ranks.{IsAssignment, assigned}
 use Rattle.rank_defs.specs.Spread.{point_forest, own_stratum, own_chart}
 use Rattle.rank_laws.proofs.Shapes.{HasShape, sights_of-shape, is_face_of, facets-are_faces, is_pair, edges-are_pairs}
 use Rattle.rank_laws.proofs.TurnedEdges.{pair-below}
 use Rattle.rank_laws.proofs.Found.{length-sorted}
-use Rattle.share_laws.specs.Charts.{own_charts, points_of, first_holder, forest_of_charts}
-use Rattle.share_laws.specs.Packed.{no_vertex, packed, IsPackable}
-use Rattle.share_laws.proofs.Own.{own-of_dim}
-use Rattle.share_laws.proofs.Owners.{own-forest}
-use Rattle.share_laws.proofs.Packed.{packed-once}
-use Rattle.meeting_laws.specs.Sets.{filled, forest_of_sets}
+use Rattle.rank_laws.specs.share_laws.Charts.{own_charts, points_of, first_holder, forest_of_charts}
+use Rattle.rank_laws.specs.share_laws.Packed.{no_vertex, packed, IsPackable}
+use Rattle.rank_laws.proofs.share_laws.Own.{own-of_dim}
+use Rattle.rank_laws.proofs.share_laws.Owners.{own-forest}
+use Rattle.rank_laws.proofs.share_laws.Packed.{packed-once}
+use Rattle.rank_chart_laws.specs.meeting_laws.Sets.{filled, forest_of_sets}
 use Rattle.rank_chart_laws.specs.OwnRanks.{own_vertices, own_middle, set_of, own_rank_chart, own_rank_charts}
 use Rattle.rank_chart_laws.proofs.Wholes.{own-sound, top-cells, tops-first}
 use Rattle.rank_chart_laws.proofs.Forests.{fill, sets-tell}

@@ -14,11 +14,11 @@ use Rattle.mesh_defs.specs.RightMesh.{IsSoundMesh, CellsDiffer, in_some}
 use Rattle.rank_defs.specs.Ranks.{IsAssignment, assigned, held_cells, owner}
 use Rattle.rank_defs.specs.Spread.{own_chart}
 use Rattle.rank_laws.proofs.Owning.{held-are_cells}
-use Rattle.share_laws.specs.Charts.{vertex_point, own_charts}
-use Rattle.share_laws.specs.Packed.{no_vertex}
-use Rattle.share_laws.proofs.Owners.{owner-first, shown-by}
-use Rattle.meeting_laws.specs.Sets.{has_vertex, first_having, Rising, IsRankChart}
-use Rattle.meeting_laws.proofs.Lists.{passes_below}
+use Rattle.rank_laws.specs.share_laws.Charts.{vertex_point, own_charts}
+use Rattle.rank_laws.specs.share_laws.Packed.{no_vertex}
+use Rattle.rank_laws.proofs.share_laws.Owners.{owner-first, shown-by}
+use Rattle.rank_chart_laws.specs.meeting_laws.Sets.{has_vertex, first_having, Rising, IsRankChart}
+use Rattle.rank_chart_laws.proofs.meeting_laws.Lists.{passes_below}
 use Rattle.rank_chart_laws.specs.OwnRanks.{own_vertices, own_middle, set_of, own_rank_chart, own_rank_charts}
 use Rattle.std.proofs.lemmas.List.{map-append}
 use Rattle.std.proofs.lemmas.List.Filters.{length-filter_both}
@@ -36,10 +36,10 @@ use Rattle.rank_defs.specs.Ranks.{IsRightAssignment, rank_of}
 use Rattle.rank_defs.specs.Spread.{own_stratum, point_forest}
 use Rattle.rank_laws.proofs.Shapes.{HasShape}
 use Rattle.rank_laws.proofs.Found.{length-sorted}
-use Rattle.share_laws.proofs.Own.{own-of_dim}
-use Rattle.share_laws.proofs.Vertices.{rank-vertices}
-use Rattle.meeting_laws.specs.Sets.{filled, point_count, IsSetOf, AreRankCharts, forest_of_sets}
-use Rattle.meeting_laws.proofs.Lists.{passes_at}
+use Rattle.rank_laws.proofs.share_laws.Own.{own-of_dim}
+use Rattle.rank_laws.proofs.share_laws.Vertices.{rank-vertices}
+use Rattle.rank_chart_laws.specs.meeting_laws.Sets.{filled, point_count, IsSetOf, AreRankCharts, forest_of_sets}
+use Rattle.rank_chart_laws.proofs.meeting_laws.Lists.{passes_at}
 use Rattle.rank_chart_laws.proofs.Wholes.{own-sound}
 use Rattle.rank_chart_laws.proofs.Lower.{shaped, forest-by_sets}
 use Rattle.rank_chart_laws.proofs.Few.{vertices-few, sights-few}

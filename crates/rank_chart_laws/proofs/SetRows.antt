@@ -7,9 +7,9 @@ use Rattle.mesh_defs.specs.Points.{sights_of, contains}
 use Rattle.sf_defs.specs.Forest.{leaf, degree}
 use Rattle.rank_defs.specs.Ranks.{assigned, ranks_at, owner}
 use Rattle.plex_defs.proofs.Meshes.{two_triangles_at}
-use Rattle.share_laws.specs.Packed.{no_vertex}
-use Rattle.meeting_laws.specs.Sets.{forest_of_sets}
-use Rattle.meeting_laws.specs.Steps.{vertex_forest, is_copied, may_share, candidates}
+use Rattle.rank_laws.specs.share_laws.Packed.{no_vertex}
+use Rattle.rank_chart_laws.specs.meeting_laws.Sets.{forest_of_sets}
+use Rattle.rank_chart_laws.specs.meeting_laws.Steps.{vertex_forest, is_copied, may_share, candidates}
 use Rattle.rank_chart_laws.specs.OwnRanks.{own_rank_chart, own_rank_charts}
 
 abbrev triangle : ℕ → ℕ → ℕ → Cell

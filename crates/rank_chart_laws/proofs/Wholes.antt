@@ -17,12 +17,12 @@ use Rattle.mesh_defs.specs.Sights.{points_differ}
 use Rattle.mesh_defs.specs.RightMesh.{IsFlatOrSolid, IsSoundCell, IsSoundMesh, CellsDiffer, in_some}
 use Rattle.mesh_laws.proofs.Firsts.{firsts-fresh, shows-true, firsts-all}
 use Rattle.mesh_laws.proofs.Containing.{sights-contained}
-use Rattle.diagram_laws.proofs.Parts.{FlatOrSolid, of_dim, cell-dims, stratum-cells}
+use Rattle.rank_laws.proofs.diagram_laws.Parts.{FlatOrSolid, of_dim, cell-dims, stratum-cells}
 use Rattle.rank_defs.specs.Ranks.{IsAssignment, rank_of, assigned}
 use Rattle.rank_defs.specs.Spread.{own_stratum, own_chart}
-use Rattle.orient_laws.proofs.Seen.{IsFirst, cell-seen, shown-dim, first-one, stratum-first}
-use Rattle.share_laws.specs.Charts.{own_charts, points_of, first_holder}
-use Rattle.share_laws.proofs.Owners.{least-first, shown-by, first-shown}
+use Rattle.rank_laws.proofs.orient_laws.Seen.{IsFirst, cell-seen, shown-dim, first-one, stratum-first}
+use Rattle.rank_laws.specs.share_laws.Charts.{own_charts, points_of, first_holder}
+use Rattle.rank_laws.proofs.share_laws.Owners.{least-first, shown-by, first-shown}
 
 -- cells as they see themselves
 abbrev pub cells_seen : List (ℕ × Cell) → List Sight

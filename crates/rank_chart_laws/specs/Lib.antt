@@ -1,1 +1,9 @@
 pub mod OwnRanks
+pub mod meeting_laws
+pub mod rank_diagram_laws
+pub mod key_laws
+pub mod home_laws
+pub mod moved_laws
+pub mod field_laws
+pub mod label_laws
+pub mod mark_laws

@@ -6,8 +6,8 @@ use Rattle.mesh_defs.specs.Points.{Sight, point_of}
 use Rattle.mesh_defs.specs.RightMesh.{in_some}
 use Rattle.rank_defs.specs.Ranks.{assigned, owner}
 use Rattle.rank_defs.specs.Spread.{own_stratum}
-use Rattle.share_laws.specs.Charts.{vertex_point}
-use Rattle.meeting_laws.specs.Sets.{RankChart, filled}
+use Rattle.rank_laws.specs.share_laws.Charts.{vertex_point}
+use Rattle.rank_chart_laws.specs.meeting_laws.Sets.{RankChart, filled}
 
 -- the vertices of some cells, rising
 abbrev pub own_vertices : Mesh → List (ℕ × Cell) → List ℕ

@@ -3,6 +3,15 @@
 //! Each function below does nothing: its contract is the law, and its proof is the law's.
 #![tactic(auto)]
 
+pub mod field_laws;
+pub mod home_laws;
+pub mod key_laws;
+pub mod label_laws;
+pub mod mark_laws;
+pub mod meeting_laws;
+pub mod moved_laws;
+pub mod rank_diagram_laws;
+
 ghost use Rattle.std.specs.Prelude.{◌≡◌, ◌<◌, ℕ, List, length};
 ghost use Rattle.std.specs.List.{AllByRecursion};
 ghost use Rattle.mesh_defs.specs.Mesh.{Mesh};
@@ -10,8 +19,8 @@ ghost use Rattle.mesh_defs.specs.Points.{Sight, point_of};
 ghost use Rattle.mesh_defs.specs.RightMesh.{CellsDiffer, IsRightMesh, IsSoundMesh};
 ghost use Rattle.rank_defs.specs.Ranks.{IsAssignment, IsRightAssignment, assigned};
 ghost use Rattle.rank_defs.specs.Spread.{own_chart, own_stratum, point_forest, scatter_part, vertices_among};
-ghost use Rattle.share_laws.specs.Charts.{first_holder, own_charts, points_of};
-ghost use Rattle.meeting_laws.specs.Sets.{AreRankCharts, forest_of_sets};
+ghost use Rattle.rank_laws.specs.share_laws.Charts.{first_holder, own_charts, points_of};
+ghost use Rattle.rank_chart_laws.specs.meeting_laws.Sets.{AreRankCharts, forest_of_sets};
 ghost use Rattle.rank_chart_laws.specs.OwnRanks.{own_rank_chart, own_rank_charts};
 
 /// A cell is on its own rank alone: the first rank whose chart has it is the rank to which it is assigned.

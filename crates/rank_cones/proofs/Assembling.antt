@@ -4,8 +4,8 @@ use Rattle.std.proofs.lemmas.List.{length-map}
 use Rattle.plain_lists.specs.Lists.{below}
 use Rattle.plain_lists.proofs.Below.{map-below-length}
 use Rattle.mesh_defs.specs.Diagram.{Covering, Diagram}
-use Rattle.diagram_laws.specs.Strata.{bare_cover}
-use Rattle.rank_diagram_laws.specs.Parts.{Parts, cell_part, face_part, edge_part, parts_diagram}
+use Rattle.rank_laws.specs.diagram_laws.Strata.{bare_cover}
+use Rattle.rank_chart_laws.specs.rank_diagram_laws.Parts.{Parts, cell_part, face_part, edge_part, parts_diagram}
 use Rattle.rank_cones.specs.Assembly.{IsFor}
 
 module _ (p : Parts) where

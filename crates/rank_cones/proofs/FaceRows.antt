@@ -19,8 +19,8 @@ use Rattle.mesh_defs.specs.Diagram.{place_in}
 use Rattle.mesh_defs.proofs.RightMeshes.{are_corners}
 use Rattle.rank_laws.proofs.Shapes.{is_face_of, facets-are_faces}
 use Rattle.rank_laws.proofs.Found.{poly-told, length-sorted}
-use Rattle.diagram_laws.specs.Strata.{turn_among}
-use Rattle.rank_diagram_laws.specs.Parts.{IsFacePart}
+use Rattle.rank_laws.specs.diagram_laws.Strata.{turn_among}
+use Rattle.rank_chart_laws.specs.rank_diagram_laws.Parts.{IsFacePart}
 use Rattle.rank_cones.specs.Placed.{IsOn}
 
 -- a facet of a solid: a polygon on corners of it

@@ -9,7 +9,7 @@ use Rattle.mesh_defs.specs.declared.Poly.TheVariants.{Segment}
 use Rattle.mesh_defs.specs.Tables.{facets_of, edges_of, edge_at}
 use Rattle.mesh_defs.specs.Mesh.{Cell}
 use Rattle.mesh_defs.specs.Points.{Sight, point_on, shows, vertex_sight, cell_edges}
-use Rattle.rank_diagram_laws.specs.Parts.{HasFacets, IsFacePart}
+use Rattle.rank_chart_laws.specs.rank_diagram_laws.Parts.{HasFacets, IsFacePart}
 use Rattle.rank_cones.specs.Placed.{sight_at}
 use Rattle.rank_cones.specs.Seen.{HasSides}
 use Rattle.rank_cones.proofs.Polygons.{ends-at, ends-differ, side-there}

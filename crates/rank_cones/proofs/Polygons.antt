@@ -14,7 +14,7 @@ use Rattle.mesh_defs.proofs.RightMeshes.{are_corners}
 use Rattle.rank_laws.proofs.Shapes.{is_pair, edges-are_pairs, picked-differ}
 use Rattle.rank_laws.proofs.Found.{two-entries}
 use Rattle.rank_laws.proofs.TurnedEdges.{polygon-facets, pair-below}
-use Rattle.rank_diagram_laws.specs.Parts.{HasFacets}
+use Rattle.rank_chart_laws.specs.rank_diagram_laws.Parts.{HasFacets}
 
 -- ---- the sides of a polygon
 

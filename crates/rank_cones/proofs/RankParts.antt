@@ -9,21 +9,21 @@ use Rattle.mesh_defs.specs.Diagram.{Diagram, diagram}
 use Rattle.mesh_defs.specs.Sights.{IsEdgeSight}
 use Rattle.mesh_defs.specs.RightMesh.{IsSoundCell, IsRightMesh}
 use Rattle.mesh_laws.proofs.Firsts.{list_any-firsts, shown_itself}
-use Rattle.share_laws.proofs.Own.{sound-cells}
+use Rattle.rank_laws.proofs.share_laws.Own.{sound-cells}
 use Rattle.rank_defs.specs.Ranks.{assigned}
-use Rattle.reach_laws.proofs.Charts.{own-place}
-use Rattle.orient_laws.specs.Named.{chart_stratum, own_twist}
-use Rattle.orient_laws.proofs.Seen.{same_points}
-use Rattle.orient_laws.proofs.Tops.{assigned-cells}
-use Rattle.diagram_laws.specs.Strata.{face_sights, first_twist}
+use Rattle.rank_laws.proofs.reach_laws.Charts.{own-place}
+use Rattle.rank_laws.specs.orient_laws.Named.{chart_stratum, own_twist}
+use Rattle.rank_laws.proofs.orient_laws.Seen.{same_points}
+use Rattle.rank_laws.proofs.orient_laws.Tops.{assigned-cells}
+use Rattle.rank_laws.specs.diagram_laws.Strata.{face_sights, first_twist}
 use Rattle.local_points.specs.Cells.{faces_seen}
 use Rattle.local_points.specs.Points.{Local, local_points}
 use Rattle.local_points.proofs.Strata.{faces-stratum}
-use Rattle.held_points.specs.Held.{Held, held_of}
-use Rattle.held_points.proofs.Once.{chart-differs}
-use Rattle.rank_diagram_laws.specs.Parts.{Parts, held_faces, parts_of, parts_diagram, IsEdgePart}
-use Rattle.rank_diagram_laws.proofs.Charted.{solid-faces, flat-faces}
-use Rattle.rank_diagram_laws.proofs.Fitting.{parts-fit, own-twist-by, rank-diagram}
+use Rattle.rank_cones.specs.held_points.Held.{Held, held_of}
+use Rattle.rank_cones.proofs.held_points.Once.{chart-differs}
+use Rattle.rank_chart_laws.specs.rank_diagram_laws.Parts.{Parts, held_faces, parts_of, parts_diagram, IsEdgePart}
+use Rattle.rank_chart_laws.proofs.rank_diagram_laws.Charted.{solid-faces, flat-faces}
+use Rattle.rank_chart_laws.proofs.rank_diagram_laws.Fitting.{parts-fit, own-twist-by, rank-diagram}
 use Rattle.rank_cones.specs.Seen.{AreSeen}
 use Rattle.rank_cones.specs.Assembly.{rank_parts, AreWhole}
 use Rattle.rank_cones.specs.Ranks.{IsRank}

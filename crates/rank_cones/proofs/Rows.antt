@@ -17,7 +17,7 @@ use Rattle.rank_laws.proofs.Found.{at-found}
 use Rattle.local_points.specs.Cells.{cell_at, faces_seen, edges_seen}
 use Rattle.local_points.specs.Points.{Local, places_in, faces_among, edges_among, local_points, row_at}
 use Rattle.local_points.proofs.Strata.{row-faces, row-edges, face-place, edge-place, length-face_places, length-edge_places}
-use Rattle.held_points.specs.Held.{Held}
+use Rattle.rank_cones.specs.held_points.Held.{Held}
 use Rattle.rank_cones.specs.Placed.{ArePlaced}
 
 -- ---- what one cell sees

@@ -23,11 +23,11 @@ use Rattle.mesh_laws.proofs.Entries.{shows-edge_ends}
 use Rattle.rank_laws.proofs.Shapes.{is_edge_of, is_pair, is_side_of, is_face_of, facets-are_faces}
 use Rattle.rank_laws.proofs.Found.{two-entries, sorted-turned, shows-list}
 use Rattle.rank_laws.proofs.TurnedEdges.{polygon-facets, pair-below, turned-edges}
-use Rattle.diagram_laws.specs.Strata.{face_sights, first_twist, turn_among}
-use Rattle.reach_laws.proofs.Tables.{any-flat_map}
+use Rattle.rank_laws.specs.diagram_laws.Strata.{face_sights, first_twist, turn_among}
+use Rattle.rank_laws.proofs.reach_laws.Tables.{any-flat_map}
 use Rattle.local_points.specs.Cells.{cell_at, faces_seen}
-use Rattle.held_points.specs.Held.{Held}
-use Rattle.rank_diagram_laws.specs.Parts.{Parts, IsCellPart, IsFacePart, AreParts}
+use Rattle.rank_cones.specs.held_points.Held.{Held}
+use Rattle.rank_chart_laws.specs.rank_diagram_laws.Parts.{Parts, IsCellPart, IsFacePart, AreParts}
 use Rattle.rank_cones.specs.Placed.{IsOn, is_twisted, sight_at}
 use Rattle.rank_cones.specs.Seen.{HasFace, HasSides, AreSeen, AreSeeing, AreSolidsOn}
 use Rattle.rank_cones.proofs.Rows.{face-is_at, length-faces}

@@ -16,9 +16,9 @@ use Rattle.mesh_defs.specs.Mesh.{Cell}
 use Rattle.mesh_defs.specs.Points.{Sight, point_on, shows, cell_faces}
 use Rattle.mesh_defs.specs.Diagram.{Covering, Diagram}
 use Rattle.plex_chart.specs.Chart.{stratum_range, chart_size, IsInStratum}
-use Rattle.diagram_laws.specs.Strata.{face_sights, entry_from, cone_from, first_twist}
+use Rattle.rank_laws.specs.diagram_laws.Strata.{face_sights, entry_from, cone_from, first_twist}
 use Rattle.local_points.specs.Cells.{cell_at}
-use Rattle.rank_diagram_laws.specs.Parts.{Parts, sides, HasFacets, IsCellPart, IsEdgePart, AreParts, cell_part, face_part, edge_part}
+use Rattle.rank_chart_laws.specs.rank_diagram_laws.Parts.{Parts, sides, HasFacets, IsCellPart, IsEdgePart, AreParts, cell_part, face_part, edge_part}
 use Rattle.rank_cones.specs.Placed.{is_twisted, IsOn, IsFirstTwist}
 use Rattle.rank_cones.specs.Assembly.{IsFor}
 use Rattle.rank_cones.specs.declared.stop.Stop.{Stop}

@@ -23,8 +23,8 @@ use Rattle.rank_laws.proofs.Shapes.{is_pair, edges-are_pairs, is_face_of, facets
 use Rattle.rank_laws.proofs.Found.{at-found, two-entries, poly-told, length-sorted}
 use Rattle.rank_laws.proofs.TurnedEdges.{polygon-facets}
 use Rattle.plex_chart.specs.Chart.{no_point, point_at, FitsFacet, IsWhole}
-use Rattle.diagram_laws.specs.Strata.{face_sights, turn_among, entry_from, cone_from, bare_cover, first_twist}
-use Rattle.rank_diagram_laws.specs.Parts.{Parts, sides, HasFacets, IsCellPart, IsFacePart, IsEdgePart, AreParts, cell_part, face_part, end_part, edge_part, parts_diagram}
+use Rattle.rank_laws.specs.diagram_laws.Strata.{face_sights, turn_among, entry_from, cone_from, bare_cover, first_twist}
+use Rattle.rank_chart_laws.specs.rank_diagram_laws.Parts.{Parts, sides, HasFacets, IsCellPart, IsFacePart, IsEdgePart, AreParts, cell_part, face_part, end_part, edge_part, parts_diagram}
 use Rattle.rank_cones.specs.Placed.{sight_at}
 use Rattle.rank_cones.proofs.Polygons.{pair-long}
 use Rattle.rank_cones.proofs.Strata.{some-answer, turned-all}

@@ -3,8 +3,8 @@ use Rattle.std.specs.Prelude.{◌≡◌, ℕ, List, length}
 use Rattle.mesh_defs.specs.Mesh.{Cell}
 use Rattle.mesh_defs.specs.Diagram.{Diagram}
 use Rattle.local_points.specs.Points.{Local, local_points}
-use Rattle.held_points.specs.Held.{Held}
-use Rattle.rank_diagram_laws.specs.Parts.{Parts, AreParts}
+use Rattle.rank_cones.specs.held_points.Held.{Held}
+use Rattle.rank_chart_laws.specs.rank_diagram_laws.Parts.{Parts, AreParts}
 use Rattle.rank_cones.specs.Placed.{ArePlaced}
 use Rattle.rank_cones.specs.Seen.{AreSeen}
 

@@ -6,9 +6,9 @@ use Rattle.mesh_defs.specs.Mesh.{Cell}
 use Rattle.mesh_defs.specs.Points.{Sight, vertex_sight}
 use Rattle.mesh_defs.specs.Sights.{IsEdgeSight}
 use Rattle.local_points.specs.Points.{Local, places_in}
-use Rattle.held_points.specs.Held.{Held}
-use Rattle.diagram_laws.specs.Strata.{turn_among, first_twist}
-use Rattle.rank_diagram_laws.specs.Parts.{IsList, HasFacets, IsFacePart}
+use Rattle.rank_cones.specs.held_points.Held.{Held}
+use Rattle.rank_laws.specs.diagram_laws.Strata.{turn_among, first_twist}
+use Rattle.rank_chart_laws.specs.rank_diagram_laws.Parts.{IsList, HasFacets, IsFacePart}
 use Rattle.rank_cones.specs.declared.stop.Stop.{Stop}
 use Rattle.rank_cones.specs.declared.stop.Stop.TheVariants.{Twist, NoMemory}
 

@@ -4,9 +4,9 @@ use Rattle.mesh_defs.specs.Mesh.{Mesh, Cell}
 use Rattle.mesh_defs.specs.Diagram.{diagram}
 use Rattle.mesh_defs.specs.RightMesh.{IsRightMesh}
 use Rattle.rank_defs.specs.Ranks.{IsRightAssignment, assigned}
-use Rattle.orient_laws.specs.Named.{own_twist}
+use Rattle.rank_laws.specs.orient_laws.Named.{own_twist}
 use Rattle.local_points.specs.Points.{Local, local_points}
-use Rattle.held_points.specs.Held.{Held, held_of}
+use Rattle.rank_cones.specs.held_points.Held.{Held, held_of}
 use Rattle.rank_chart_laws.specs.OwnRanks.{own_vertices}
 use Rattle.rank_cones.specs.declared.drawn.Drawn.{Drawn}
 use Rattle.rank_cones.specs.declared.drawn.Drawn.TheVariants.{Whole, Twisted}

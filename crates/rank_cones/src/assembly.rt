@@ -1,17 +1,17 @@
 //! The points of a rank, stratum after stratum.
 
 ghost use Rattle.std.specs.Prelude.{◌≡◌, ◌+◌, ◌<◌, ◌≤◌, [], ◌++◌, map, length, None, OnOk, IfErr};
-ghost use Rattle.diagram_laws.specs.Strata.{face_sights, first_twist, bare_cover};
+ghost use Rattle.rank_laws.specs.diagram_laws.Strata.{face_sights, first_twist, bare_cover};
 ghost use Rattle.plain_lists.specs.Lists.{below};
-ghost use Rattle.rank_diagram_laws.specs.Parts.{AreParts, cell_part, face_part, edge_part};
+ghost use Rattle.rank_chart_laws.specs.rank_diagram_laws.Parts.{AreParts, cell_part, face_part, edge_part};
 ghost use Rattle.rank_cones.specs.Placed.{IsFirstTwist};
 ghost use Rattle.rank_cones.specs.Assembly.{rank_parts, AreWhole, IsFor};
 
 use crate::cones::{cell_cone, face_cone};
+use crate::held_points::HeldPoints;
 use crate::seen::seeing_cells;
 use crate::sides::end_entry;
 use crate::stop::Stop;
-use held_points::HeldPoints;
 use local_points::{CellList, LocalPoints};
 use mesh_defs::{ConeEntry, Poly};
 use plex_base::NoMemory;

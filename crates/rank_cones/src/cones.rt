@@ -4,17 +4,17 @@ ghost use Rattle.std.specs.Prelude.{◌≡◌, ◌⊎◌, ◌+◌, ◌<◌, ◌=
 ghost use Rattle.std.specs.List.{list_any};
 ghost use Rattle.mesh_defs.specs.Tables.{dim_of, corner_count, facets_of};
 ghost use Rattle.mesh_defs.specs.Points.{cell_faces};
-ghost use Rattle.diagram_laws.specs.Strata.{cone_from};
+ghost use Rattle.rank_laws.specs.diagram_laws.Strata.{cone_from};
 ghost use Rattle.local_points.specs.Cells.{cell_at};
 ghost use Rattle.local_points.specs.Points.{local_points};
-ghost use Rattle.rank_diagram_laws.specs.Parts.{HasFacets};
+ghost use Rattle.rank_chart_laws.specs.rank_diagram_laws.Parts.{HasFacets};
 ghost use Rattle.rank_cones.specs.Placed.{ArePlaced, IsOn, IsFirstTwist, is_twisted, sight_at};
 ghost use Rattle.rank_cones.specs.Seen.{HasSides};
 
 use crate::faces::face_entry;
+use crate::held_points::HeldPoints;
 use crate::sides::{cell_side, face_side};
 use crate::stop::Stop;
-use held_points::HeldPoints;
 use local_points::{CellList, LocalPoints};
 use mesh_defs::ConeEntry;
 use plex_base::NoMemory;

@@ -4,12 +4,12 @@ ghost use Rattle.std.specs.Prelude.{◌≡◌, ◌+◌, ◌*◌, ◌<◌, ◌^�
 ghost use Rattle.std.specs.List.{AllByRecursion};
 ghost use Rattle.plain_lists.specs.Lists.{picked};
 ghost use Rattle.mesh_defs.specs.Tables.{facets_of, facet_at};
-ghost use Rattle.diagram_laws.specs.Strata.{entry_from, turn_among};
+ghost use Rattle.rank_laws.specs.diagram_laws.Strata.{entry_from, turn_among};
 ghost use Rattle.local_points.specs.Cells.{cell_at};
 ghost use Rattle.local_points.specs.Points.{local_points};
 ghost use Rattle.rank_cones.specs.Placed.{ArePlaced, IsOn};
 
-use held_points::HeldPoints;
+use crate::held_points::HeldPoints;
 use local_points::{CellList, LocalPoints};
 use mesh_defs::{ConeEntry, Poly};
 use plex_base::PointKey;

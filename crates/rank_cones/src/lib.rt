@@ -1,10 +1,13 @@
 //! The oriented cones of what one rank holds, once its points stand by key: the diagram of the rank's cells, or its own twist.
 #![tactic(auto)]
 
+pub mod arrangement_laws;
 mod assembly;
 mod cones;
 mod drawn;
 mod faces;
+pub mod held_points;
+pub mod rank_drawings;
 mod seen;
 mod sides;
 mod stop;

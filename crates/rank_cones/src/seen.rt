@@ -5,7 +5,7 @@ ghost use Rattle.local_points.specs.Points.{local_points};
 ghost use Rattle.rank_cones.specs.Placed.{ArePlaced};
 ghost use Rattle.rank_cones.specs.Seen.{HasFace, AreSeeing, AreSolidsOn};
 
-use held_points::HeldPoints;
+use crate::held_points::HeldPoints;
 use local_points::{CellList, LocalPoints};
 use plex_base::NoMemory;
 use poly_tables::{dim, facet_count};

@@ -8,15 +8,15 @@ ghost use Rattle.mesh_defs.specs.Tables.{corner_count, edges_of, edge_at, facets
 ghost use Rattle.mesh_defs.specs.Points.{same_point, point_on, shows, cell_edges};
 ghost use Rattle.mesh_defs.specs.Diagram.{place_in};
 ghost use Rattle.mesh_defs.specs.Sights.{IsEdgeSight};
-ghost use Rattle.meeting_laws.specs.Sets.{Rising};
-ghost use Rattle.diagram_laws.specs.Strata.{entry_from};
+ghost use Rattle.rank_chart_laws.specs.meeting_laws.Sets.{Rising};
+ghost use Rattle.rank_laws.specs.diagram_laws.Strata.{entry_from};
 ghost use Rattle.local_points.specs.Cells.{cell_at};
 ghost use Rattle.local_points.specs.Points.{local_points};
-ghost use Rattle.rank_diagram_laws.specs.Parts.{HasFacets};
+ghost use Rattle.rank_chart_laws.specs.rank_diagram_laws.Parts.{HasFacets};
 ghost use Rattle.rank_cones.specs.Placed.{ArePlaced, IsOn, sight_at};
 ghost use Rattle.rank_cones.specs.Seen.{HasSides};
 
-use held_points::HeldPoints;
+use crate::held_points::HeldPoints;
 use local_points::{CellList, LocalPoints};
 use mesh_defs::ConeEntry;
 use poly_tables::{edge_corner, edge_count};

@@ -2,17 +2,17 @@
 
 ghost use Rattle.std.specs.Prelude.{◌≡◌, ℕ, List, None, IfOk, OnOk, IfErr};
 ghost use Rattle.mesh_defs.specs.Mesh.{Mesh};
-ghost use Rattle.diagram_laws.specs.Strata.{face_sights, first_twist};
+ghost use Rattle.rank_laws.specs.diagram_laws.Strata.{face_sights, first_twist};
 ghost use Rattle.plex_base.specs.Dim.{dim_number};
-ghost use Rattle.rank_diagram_laws.specs.Parts.{parts_diagram};
+ghost use Rattle.rank_chart_laws.specs.rank_diagram_laws.Parts.{parts_diagram};
 ghost use Rattle.rank_cones.specs.Placed.{IsFirstTwist};
 ghost use Rattle.rank_cones.specs.Assembly.{rank_parts, AreWhole};
 ghost use Rattle.rank_cones.specs.Ranks.{IsRank, Draws};
 
 use crate::assembly::{push_cells, push_edges, push_faces, push_vertices};
 use crate::drawn::Drawn;
+use crate::held_points::HeldPoints;
 use crate::stop::Stop;
-use held_points::HeldPoints;
 use local_points::{CellList, LocalPoints};
 use plex_base::{Dim, NoMemory};
 use plex_chart::{Plex, PlexBuilder};

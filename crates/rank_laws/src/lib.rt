@@ -3,6 +3,16 @@
 //! Each function below does nothing: its contract is the law, and its proof is the law's.
 #![tactic(auto)]
 
+pub mod cell_laws;
+pub mod diagram_laws;
+pub mod keyed_laws;
+pub mod layer_laws;
+pub mod meet_laws;
+pub mod orient_laws;
+pub mod reach_laws;
+pub mod share_laws;
+pub mod trace_laws;
+
 ghost use Rattle.std.specs.Prelude.{◌≡◌, ◌≢◌, if◌then◌else◌, Bool, ◌↔◌, ◌==◌, ◌<◌, ◌≤◌, ℕ, ◌+◌, List, None, Some, Option, Contains, IsPermutation, length, map, slice_index, slice_index_or, filter, filter_map, flat_map, option_and_then, true};
 ghost use Rattle.std.specs.List.{list_any};
 ghost use Rattle.plain_lists.specs.Lists.{below, picked};

@@ -2,7 +2,7 @@
 use Rattle.std.proofs.Common.{◌≡◌, ℕ, ℤ, List, [], ◌∷◌, ◌++◌, map, Result, Ok, Err, ap, sym, ◌∙◌, append_assoc, append-nil}
 use Rattle.std.specs.Prelude.{OnOk, codes, decimal, flat_map}
 use Rattle.std.specs.List.{join_with_byte}
-use Rattle.line_defs.specs.Numbers.{fixed_text}
+use Rattle.input_defs.specs.line_defs.Numbers.{fixed_text}
 use Rattle.input_defs.specs.Refused.{on_line}
 
 -- two parts

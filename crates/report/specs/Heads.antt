@@ -3,7 +3,7 @@ use Rattle.std.specs.Prelude.{ℕ, pos, List, [], length, get_or}
 use Rattle.mesh_defs.specs.declared.Place.TheVariants.{Node}
 use Rattle.mesh_defs.specs.Mesh.{Mesh, Name, Section}
 use Rattle.input_defs.specs.Plans.{DofsLine}
-use Rattle.text_defs.specs.Text.{mesh_line}
+use Rattle.input_defs.specs.text_defs.Text.{mesh_line}
 
 -- what stands past the last name, data section and section of a plan
 abbrev pub no_name : Name

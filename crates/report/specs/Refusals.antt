@@ -5,7 +5,7 @@ use Rattle.input_defs.specs.declared.MeshFault.TheVariants as mesh
 use Rattle.input_defs.specs.declared.PlanFault.TheVariants as plan
 use Rattle.input_defs.specs.declared.Status.{Status}
 use Rattle.input_defs.specs.declared.Status.TheVariants as status
-use Rattle.text_defs.specs.Refusals.{words_refused, read_refused, too_long_refused}
+use Rattle.input_defs.specs.text_defs.Refusals.{words_refused, read_refused, too_long_refused}
 use Rattle.input_defs.specs.Refused.{plan_refused, msh_refused, mesh_refused, twist_refused}
 use Rattle.report.specs.declared.refusal.Refusal.{Refusal}
 use Rattle.report.specs.declared.refusal.Refusal.TheVariants.{Words, Read, TooLong, Plan, Msh, Mesh, Twist}

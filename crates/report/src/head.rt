@@ -4,17 +4,17 @@ ghost use Rattle.std.specs.Prelude.{◌≡◌, ◌++◌, ◌<◌, ◌+◌, [], l
 ghost use Rattle.std.specs.List.{enumerate_from};
 ghost use Rattle.plex_base.specs.DataFields.{section_on};
 ghost use Rattle.cause_defs.specs.Reports.{Reports};
-ghost use Rattle.text_defs.specs.Text.{mesh_line, ranks_line};
+ghost use Rattle.input_defs.specs.text_defs.Text.{mesh_line, ranks_line};
 ghost use Rattle.input_defs.specs.Further.{in_quotes, place_text, name_line, section_line, dofs_line, full_head};
 ghost use Rattle.report.specs.Heads.{mesh_head_line, name_at, field_at, dofs_at};
 
+use crate::report_lines::{append_field, append_number, write_line};
 use cause_defs::ReportFault;
 use itoa::Buffer;
 use mesh_defs::Place;
 use plan_reader::{Plan, Show};
 use plex_base::{DataField, NoMemory};
 use plex_mesh::Mesh;
-use report_lines::{append_field, append_number, write_line};
 use shelf_io::Sink;
 use std::alloc::Global;
 
@@ -29,7 +29,7 @@ fn append_quoted(line: &mut Vec<u8>, text: &[u8]) -> Result<(), NoMemory>
     Ok(())
 }
 
-#[tactic(auto, unfolding(text_defs::specs::Text::mesh_line), using(std::proofs::Common::append_assoc))]
+#[tactic(auto, unfolding(input_defs::specs::text_defs::Text::mesh_line), using(std::proofs::Common::append_assoc))]
 fn append_mesh_line(line: &mut Vec<u8>, mesh: &Mesh) -> Result<(), NoMemory>
     ensures { OnOk result (line.new.items ≡ line.old.items ++ mesh_head_line mesh.now) }
 {
@@ -138,7 +138,7 @@ fn write_mesh_line<W: Sink>(line: &mut Vec<u8>, mesh: &Mesh, out: &mut W) -> Res
     write_line(out, line)
 }
 
-#[tactic(auto, unfolding(text_defs::specs::Text::ranks_line), using(std::proofs::Common::append_assoc))]
+#[tactic(auto, unfolding(input_defs::specs::text_defs::Text::ranks_line), using(std::proofs::Common::append_assoc))]
 fn write_ranks_line<W: Sink>(line: &mut Vec<u8>, ranks: u32, out: &mut W) -> Result<(), ReportFault>
     ensures { Reports W.written W.flushed W.faults W.counts_failures_alone result out.old out.new (ranks_line ranks) }
 {

@@ -9,7 +9,7 @@ ghost use Rattle.mesh_defs.specs.Mesh.{Mesh, placed_cells};
 ghost use Rattle.mesh_defs.specs.Points.{Point, Sight, point_of, shows};
 ghost use Rattle.mesh_defs.specs.Diagram.{chart, place_in};
 ghost use Rattle.plex_defs.specs.Labels.{values_at, mesh_label};
-ghost use Rattle.text_defs.specs.Text.{alone, number_of};
+ghost use Rattle.input_defs.specs.text_defs.Text.{alone, number_of};
 ghost use Rattle.input_defs.specs.Further.{labels_at};
 
 /// On one rank the number of each point of the chart is its place there.

@@ -9,6 +9,7 @@ mod line;
 mod mesh_faults;
 mod plan_faults;
 mod refusal;
+pub mod report_lines;
 mod writing;
 
 pub use cause_defs::ReportFault;

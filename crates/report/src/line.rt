@@ -3,8 +3,8 @@
 ghost use Rattle.std.specs.Prelude.{◌≡◌, ◌++◌, [], OnOk};
 ghost use Rattle.input_defs.specs.Refused.{on_line, one_number};
 
+use crate::report_lines::{append_field, append_number};
 use plex_base::NoMemory;
-use report_lines::{append_field, append_number};
 
 /// A text, and a number after a blank.
 #[tactic(auto, using(std::proofs::Common::append_assoc))]

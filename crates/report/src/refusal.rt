@@ -57,7 +57,7 @@ impl Refusal<'_> {
     }
 
     /// Its line.
-    #[tactic(auto, unfolding(text_defs::specs::Refusals::words_refused, text_defs::specs::Refusals::read_refused, text_defs::specs::Refusals::too_long_refused), using(std::proofs::Common::append_assoc))]
+    #[tactic(auto, unfolding(input_defs::specs::text_defs::Refusals::words_refused, input_defs::specs::text_defs::Refusals::read_refused, input_defs::specs::text_defs::Refusals::too_long_refused), using(std::proofs::Common::append_assoc))]
     fn append_to(&self, line: &mut Vec<u8>) -> Result<(), NoMemory>
         requires { HasLine self.now }
         ensures { OnOk result (line.new.items ≡ line.old.items ++ refusal_line self.now) }

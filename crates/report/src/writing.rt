@@ -1,7 +1,7 @@
 //! Lines that are written.
 
 ghost use Rattle.std.specs.Prelude.{◌≡◌};
-ghost use Rattle.text_defs.specs.Text.{end_line};
+ghost use Rattle.input_defs.specs.text_defs.Text.{end_line};
 ghost use Rattle.report.specs.Delivery.{Delivers};
 
 use cause_defs::ReportFault;
@@ -19,7 +19,7 @@ pub(crate) fn write_last<W: Sink>(out: &mut W, line: &[u8]) -> Result<(), Report
 /// Writes the line `end`, after which nothing stands in the text of a run, and flushes.
 ///
 /// Fails where the sink does. Then the line, or a part of it from its beginning, is added, and nothing is flushed.
-#[tactic(auto, unfolding(text_defs::specs::Text::end_line))]
+#[tactic(auto, unfolding(input_defs::specs::text_defs::Text::end_line))]
 pub fn write_end<W: Sink>(out: &mut W) -> Result<(), ReportFault>
     ensures { Delivers W.written W.flushed W.faults W.counts_failures_alone result out.old out.new end_line }
 {

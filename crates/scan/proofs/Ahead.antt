@@ -5,10 +5,10 @@ use Rattle.std.specs.List.{position_or_len}
 use Rattle.std.proofs.lemmas.Bool.{lt-ltb, eqb-true, cond-true, cond-false}
 use Rattle.std.proofs.lemmas.List.{length-take-le, length-drop, drop_all, drop_more, get_or-take}
 use Rattle.std.proofs.lemmas.List.Sums.{prefix_len-le-length, passes_at_first, fails_before_first}
-use Rattle.line_defs.specs.Rows.{is_blank, is_newline, is_some_bytes, onto_first, parts, lines_of}
-use Rattle.scan_defs.specs.declared.Token.{Token}
-use Rattle.scan_defs.specs.Lines.{Line, lines_at, front, back}
-use Rattle.scan_defs.specs.Items.{Item, Header, Word, is_header, name_of, tokens_on, words_on, items_on, items_of}
+use Rattle.input_defs.specs.line_defs.Rows.{is_blank, is_newline, is_some_bytes, onto_first, parts, lines_of}
+use Rattle.input_defs.specs.declared.scan_defs.Token.{Token}
+use Rattle.input_defs.specs.scan_defs.Lines.{Line, lines_at, front, back}
+use Rattle.input_defs.specs.scan_defs.Items.{Item, Header, Word, is_header, name_of, tokens_on, words_on, items_on, items_of}
 use Rattle.scan.specs.Cursors.{is_gap}
 use Rattle.scan.proofs.Runs.{others, parts-first, parts-from, gap-in-line, back-cons, back-pos}
 

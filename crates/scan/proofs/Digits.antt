@@ -6,7 +6,7 @@ use Rattle.std.proofs.lemmas.Int.Digits.{number_after_ge}
 use Rattle.std.proofs.lemmas.Bool.{leb-true, le-leb, and_parts, cases_lt}
 use Rattle.std.proofs.lemmas.List.{drop_more, drop_all}
 use Rattle.std.proofs.lemmas.List.Sums.{AllPass-from_list_all}
-use Rattle.line_defs.specs.Numbers.{is_digit, number_of_digits}
+use Rattle.input_defs.specs.line_defs.Numbers.{is_digit, number_of_digits}
 
 -- the number with the digits after it
 abbrev pub after : ℕ → List ℕ → ℕ

@@ -4,7 +4,7 @@ use Rattle.std.proofs.Common.{length, take, lit<}
 use Rattle.std.proofs.Math.Nat.{mod-lt, div-lt_iff_lt-mul, pow-succ'}
 use Rattle.std.proofs.lemmas.Bool.{eqb-true}
 use Rattle.std.proofs.lemmas.List.{append-nil, length-take, take-append-le}
-use Rattle.line_defs.specs.Numbers.{fraction_digits}
+use Rattle.input_defs.specs.line_defs.Numbers.{fraction_digits}
 
 -- no digit stands for nothing
 pub fraction_digits-zero : (places : ℕ) → fraction_digits places 0 ≡ []

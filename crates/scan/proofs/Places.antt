@@ -6,11 +6,11 @@ use Rattle.std.proofs.lemmas.Bool.{eqb-true, ltb-true, ltb-false, cases_lt}
 use Rattle.std.proofs.lemmas.List.Folds.{length-prefix_len}
 use Rattle.std.proofs.lemmas.List.{length-take, length-drop, drop_all, drop-drop, drop_more, take_more, get_or-drop, reverse-append}
 use Rattle.std.proofs.lemmas.List.Sums.{count_by_more_yes, count_by_more_no, count_by-le-length, take_while-cons, prefix_len-le-length, prefix_len-drop_yes, fails_before_first, passes_at_first}
-use Rattle.line_defs.specs.Rows.{is_blank, is_newline}
-use Rattle.scan_defs.specs.Lines.{line_number, lines_from, is_indent, rest_of_line, line_end, place_after_line, front, back}
-use Rattle.scan_defs.specs.Items.{Item, Header, Word, ahead}
-use Rattle.scan_defs.specs.Quotes.{quoted_in}
-use Rattle.scan_defs.specs.Steps.{line_ahead, next_token, place_after_token, ahead_after_token}
+use Rattle.input_defs.specs.line_defs.Rows.{is_blank, is_newline}
+use Rattle.input_defs.specs.scan_defs.Lines.{line_number, lines_from, is_indent, rest_of_line, line_end, place_after_line, front, back}
+use Rattle.input_defs.specs.scan_defs.Items.{Item, Header, Word, ahead}
+use Rattle.input_defs.specs.scan_defs.Quotes.{quoted_in}
+use Rattle.input_defs.specs.scan_defs.Steps.{line_ahead, next_token, place_after_token, ahead_after_token}
 use Rattle.scan.specs.declared.cursor.Cursor.{Cursor}
 use Rattle.scan.specs.Cursors.{is_gap, spot, IsAt, IsWithin, header_name}
 use Rattle.scan.proofs.Ahead.{left, over-newline, over-blank, over-token, over-header, over-last-header, at-end, dollar-first, front-none}

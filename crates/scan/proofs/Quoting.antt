@@ -5,12 +5,12 @@ use Rattle.std.specs.List.{list_all, position_or_len}
 use Rattle.std.proofs.lemmas.Bool.{cases_lt, lt-leb, le-leb, leb-true, eqb-true, and_parts, cond-false, eq-eqb, ne_eqb}
 use Rattle.std.proofs.lemmas.List.{drop_more, drop_all, drop-drop, get_or-take}
 use Rattle.std.proofs.lemmas.List.Folds.{length-prefix_len, list_all_at}
-use Rattle.line_defs.specs.Rows.{is_blank, is_newline, is_some_bytes, onto_first, parts, lines_of}
-use Rattle.scan_defs.specs.declared.Token.{Token}
-use Rattle.scan_defs.specs.Lines.{Line, lines_at, line_number, lines_from, is_indent, rest_of_line, line_end, front, back}
-use Rattle.scan_defs.specs.Items.{Item, Header, Word, is_header, name_of, tokens_at, tokens_on, words_on, items_on, items_of, ahead}
-use Rattle.scan_defs.specs.Steps.{after_items_on}
-use Rattle.scan_defs.specs.Quotes.{is_quoted, quoted_on, or_line, quoted_where, quoted_from, quoted_in}
+use Rattle.input_defs.specs.line_defs.Rows.{is_blank, is_newline, is_some_bytes, onto_first, parts, lines_of}
+use Rattle.input_defs.specs.declared.scan_defs.Token.{Token}
+use Rattle.input_defs.specs.scan_defs.Lines.{Line, lines_at, line_number, lines_from, is_indent, rest_of_line, line_end, front, back}
+use Rattle.input_defs.specs.scan_defs.Items.{Item, Header, Word, is_header, name_of, tokens_at, tokens_on, words_on, items_on, items_of, ahead}
+use Rattle.input_defs.specs.scan_defs.Steps.{after_items_on}
+use Rattle.input_defs.specs.scan_defs.Quotes.{is_quoted, quoted_on, or_line, quoted_where, quoted_from, quoted_in}
 use Rattle.scan.specs.Cursors.{is_gap, spot, IsAt}
 use Rattle.scan.specs.declared.cursor.Cursor.{Cursor}
 use Rattle.scan.proofs.Ahead.{left, at, front-blank, first-line, lines-first, lines-from, no-items, first-words, front-none}

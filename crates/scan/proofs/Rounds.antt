@@ -8,9 +8,9 @@ use Rattle.std.proofs.lemmas.Bool.{le-leb, lt-leb, leb-true, leb-false, and_part
 use Rattle.std.proofs.lemmas.List.{take_all, drop_more, get_or_past, get_or_default, length-drop, take-append-drop, map-append, length-map, length-append}
 use Rattle.std.proofs.lemmas.Nat.{div_below, le-div, mul-le}
 use Rattle.std.proofs.Math.Nat.{pow-suc, pow-succ', pow-le-pow_right, mul_assoc}
-use Rattle.line_defs.specs.Numbers.{is_digit, number_of_digits}
-use Rattle.scan_defs.specs.Numbers.{scaled}
-use Rattle.scan_defs.proofs.Huge.{ten_pow-pos, number_of_digits-lt, scaled-zero, scaled-great, scaled-small, digits_below}
+use Rattle.input_defs.specs.line_defs.Numbers.{is_digit, number_of_digits}
+use Rattle.input_defs.specs.scan_defs.Numbers.{scaled}
+use Rattle.input_defs.proofs.scan_defs.Huge.{ten_pow-pos, number_of_digits-lt, scaled-zero, scaled-great, scaled-small, digits_below}
 use Rattle.scan.specs.Rounding.{in_range, kept_value, magnitude_in_range}
 use Rattle.scan.proofs.Digits.{after, after-ge, digit_bounds}
 

@@ -5,8 +5,8 @@ use Rattle.std.proofs.lemmas.Bool.{cases_lt, ne_eqb, cond-false}
 use Rattle.std.proofs.lemmas.List.{length-reverse, get_or-reverse, get_or_past, get_or_default, reverse-append}
 use Rattle.std.proofs.lemmas.List.Folds.{prefix_len-append}
 use Rattle.std.proofs.lemmas.List.Sums.{prefix_len_passes, list_all-from_AllPass}
-use Rattle.line_defs.specs.Rows.{is_blank, is_newline, onto_first, parts}
-use Rattle.scan_defs.specs.Lines.{front, back}
+use Rattle.input_defs.specs.line_defs.Rows.{is_blank, is_newline, onto_first, parts}
+use Rattle.input_defs.specs.scan_defs.Lines.{front, back}
 use Rattle.scan.specs.Cursors.{is_gap}
 
 -- the parts after the first

@@ -3,10 +3,10 @@ use Rattle.std.proofs.Common.{◌≡◌, ℕ, suc, ◌+◌, ◌-◌, ◌*◌, �
 use Rattle.std.specs.List.{list_any, list_all, position_or_len, before_first, after_first}
 use Rattle.std.proofs.lemmas.Bool.{lt-ltb, le-ltb, and_parts, cases_lt}
 use Rattle.std.proofs.lemmas.List.{length-take, length-drop}
-use Rattle.line_defs.specs.Numbers.{is_digit, number_of_digits}
-use Rattle.scan_defs.specs.declared.NumberFault.TheVariants.{NotNumber, OutOfRange}
-use Rattle.scan_defs.specs.Numbers.{is_whole, is_sign, is_minus, without_sign, with_sign, Decimal, is_mark, is_decimal_point, mantissa, exponent, has_exponent, whole_part, fraction, is_fixed, power, decimal_of, scaled, fixed_value, fixed_of}
-use Rattle.scan_defs.proofs.Huge.{value-is, value-out}
+use Rattle.input_defs.specs.line_defs.Numbers.{is_digit, number_of_digits}
+use Rattle.input_defs.specs.declared.scan_defs.NumberFault.TheVariants.{NotNumber, OutOfRange}
+use Rattle.input_defs.specs.scan_defs.Numbers.{is_whole, is_sign, is_minus, without_sign, with_sign, Decimal, is_mark, is_decimal_point, mantissa, exponent, has_exponent, whole_part, fraction, is_fixed, power, decimal_of, scaled, fixed_value, fixed_of}
+use Rattle.input_defs.proofs.scan_defs.Huge.{value-is, value-out}
 use Rattle.scan.specs.declared.parts.Power.{Power}
 use Rattle.scan.specs.declared.parts.Parts.{Parts}
 use Rattle.scan.specs.Parts.{text_after_first, power_read, HasParts}

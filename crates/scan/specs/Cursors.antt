@@ -1,10 +1,10 @@
 -- A cursor in bytes.
 use Rattle.std.specs.Prelude.{◌≡◌, ℕ, ◌+◌, ◌≤◌, ◌||◌, Bool, List, length}
 use Rattle.plex_base.specs.declared.limits.TheConstants.{MAX_FILE_BYTES}
-use Rattle.line_defs.specs.Rows.{is_blank, is_newline}
-use Rattle.scan_defs.specs.declared.Token.{Token}
-use Rattle.scan_defs.specs.Lines.{line_number, is_indent, rest_of_line, back}
-use Rattle.scan_defs.specs.Items.{Spot}
+use Rattle.input_defs.specs.line_defs.Rows.{is_blank, is_newline}
+use Rattle.input_defs.specs.declared.scan_defs.Token.{Token}
+use Rattle.input_defs.specs.scan_defs.Lines.{line_number, is_indent, rest_of_line, back}
+use Rattle.input_defs.specs.scan_defs.Items.{Spot}
 use Rattle.scan.specs.declared.cursor.Cursor.{Cursor}
 
 -- a blank or an LF

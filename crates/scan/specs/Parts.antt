@@ -1,7 +1,7 @@
 -- The parts of a fixed-point number as they are read.
 use Rattle.std.specs.Prelude.{◌≡◌, ℕ, ◌+◌, ◌-◌, ◌^◌, min, Bool, true, false, if◌then◌else◌, List, drop, position, Option, Some, None, option_map}
-use Rattle.line_defs.specs.Numbers.{number_of_digits}
-use Rattle.scan_defs.specs.Numbers.{is_whole, is_minus, without_sign, is_mark, is_fixed, whole_part, fraction}
+use Rattle.input_defs.specs.line_defs.Numbers.{number_of_digits}
+use Rattle.input_defs.specs.scan_defs.Numbers.{is_whole, is_minus, without_sign, is_mark, is_fixed, whole_part, fraction}
 use Rattle.scan.specs.declared.parts.Power.{Power}
 use Rattle.scan.specs.declared.parts.Parts.{Parts}
 

@@ -1,6 +1,6 @@
 -- Decimal digits cut off at a place and rounded.
 use Rattle.std.specs.Prelude.{ℕ, ◌+◌, ◌-◌, ◌*◌, ◌^◌, min, nat_le, if◌then◌else◌, List, ◌++◌, length, take, get_or, Option, Some, None}
-use Rattle.line_defs.specs.Numbers.{number_of_digits}
+use Rattle.input_defs.specs.line_defs.Numbers.{number_of_digits}
 use Rattle.scan.specs.declared.parts.Power.{Power}
 
 -- at most the greatest absolute value

@@ -2,15 +2,15 @@
 
 ghost use Rattle.std.specs.Prelude.{◌≡◌, ◌==◌, ◌&&◌, ◌+◌, ◌<◌, ◌≤◌, ◌∷◌, length, get_or, drop, nat_lt, not, true, false};
 ghost use Rattle.std.specs.List.{position_or_len};
-ghost use Rattle.line_defs.specs.Rows.{is_blank, is_newline};
-ghost use Rattle.scan_defs.specs.Lines.{line_end, place_after_line, back};
-ghost use Rattle.scan_defs.specs.Items.{ahead, Word, Header};
-ghost use Rattle.scan_defs.specs.Quotes.{quoted_from};
-ghost use Rattle.scan_defs.specs.Steps.{next_header, ahead_after_header};
+ghost use Rattle.input_defs.specs.line_defs.Rows.{is_blank, is_newline};
+ghost use Rattle.input_defs.specs.scan_defs.Lines.{line_end, place_after_line, back};
+ghost use Rattle.input_defs.specs.scan_defs.Items.{ahead, Word, Header};
+ghost use Rattle.input_defs.specs.scan_defs.Quotes.{quoted_from};
+ghost use Rattle.input_defs.specs.scan_defs.Steps.{next_header, ahead_after_header};
 ghost use Rattle.scan.specs.Cursors.{IsAt, IsWithin, is_gap, spot, header_name};
 
+use input_defs::scan_defs::Token;
 use plex_base::MAX_FILE_BYTES;
-use scan_defs::Token;
 
 /// A place in the bytes of a file.
 #[derive(Clone, Copy, Debug)]
@@ -94,7 +94,7 @@ pub fn token_end(bytes: &[u8], start: usize) -> usize
 }
 
 /// The end of the line of a place.
-#[tactic(auto, unfolding(scan_defs::specs::Lines::line_end))]
+#[tactic(auto, unfolding(input_defs::specs::scan_defs::Lines::line_end))]
 pub fn line_end(bytes: &[u8], place: usize) -> usize
     requires { place ≤ length bytes.now }
     ensures end { result ≡ line_end bytes.now place }

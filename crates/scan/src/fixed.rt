@@ -2,13 +2,13 @@
 
 ghost use Rattle.std.specs.Prelude.{◌≡◌, ◌+◌, ◌*◌, ◌<◌, ◌≤◌, ◌^◌, length, IsTrue};
 ghost use Rattle.std.specs.List.{list_all};
-ghost use Rattle.line_defs.specs.Numbers.{is_digit};
-ghost use Rattle.scan_defs.specs.Numbers.{with_sign, fixed_of};
+ghost use Rattle.input_defs.specs.line_defs.Numbers.{is_digit};
+ghost use Rattle.input_defs.specs.scan_defs.Numbers.{with_sign, fixed_of};
 ghost use Rattle.scan.specs.Rounding.{kept_places, magnitude_in_range};
 
 use crate::parts::{Parts, Power, split_parts};
 use crate::rounding::kept_value;
-use scan_defs::NumberFault;
+use input_defs::scan_defs::NumberFault;
 
 /// How many digits a number keeps in 10^-10, of which `whole` stand before the point; none where
 /// that is below 0.

@@ -13,7 +13,7 @@ mod scanning;
 mod whole;
 
 pub use fixed::read_fixed;
+pub use input_defs::scan_defs::{NumberFault, Token};
 pub use print::print_fixed;
-pub use scan_defs::{NumberFault, Token};
 pub use scanning::Scan;
 pub use whole::{read_int, read_uint};

@@ -2,8 +2,8 @@
 
 ghost use Rattle.std.specs.Prelude.{◌≡◌, ◌++◌, false, option_map, position, MatchOption};
 ghost use Rattle.std.specs.List.{list_all, before_first, after_first};
-ghost use Rattle.line_defs.specs.Numbers.{is_digit};
-ghost use Rattle.scan_defs.specs.Numbers.{is_whole, is_mark, is_decimal_point, is_fixed};
+ghost use Rattle.input_defs.specs.line_defs.Numbers.{is_digit};
+ghost use Rattle.input_defs.specs.scan_defs.Numbers.{is_whole, is_mark, is_decimal_point, is_fixed};
 ghost use Rattle.scan.specs.Parts.{text_after_first, power_read, HasParts};
 
 use crate::whole::{is_digit, number_up_to_most, split_sign};

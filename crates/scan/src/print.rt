@@ -1,7 +1,7 @@
 //! The shortest decimal texts of fixed-point values.
 
 ghost use Rattle.std.specs.Prelude.{◌≡◌, ◌++◌, ◌^◌, ◌<◌, ◌≤◌, if◌then◌else◌, is_ok, length, take, OnOk};
-ghost use Rattle.line_defs.specs.Numbers.{fixed_text, unsigned_fixed_text, fraction_digits};
+ghost use Rattle.input_defs.specs.line_defs.Numbers.{fixed_text, unsigned_fixed_text, fraction_digits};
 
 use itoa::Buffer;
 use plex_base::NoMemory;
@@ -28,7 +28,7 @@ fn append_fraction(rest: u64, to: &mut Vec<u8>) -> Result<(), AllocError>
     Ok(())
 }
 
-#[tactic(auto, unfolding(line_defs::specs::Numbers::unsigned_fixed_text))]
+#[tactic(auto, unfolding(input_defs::specs::line_defs::Numbers::unsigned_fixed_text))]
 fn append_unsigned(size: u128, to: &mut Vec<u8>) -> Result<(), AllocError>
     ensures text { OnOk result (to.new.items ≡ to.old.items ++ unsigned_fixed_text size) }
     ensures front { take (length to.old.items) to.new.items ≡ to.old.items }
@@ -42,7 +42,7 @@ fn append_unsigned(size: u128, to: &mut Vec<u8>) -> Result<(), AllocError>
     Ok(())
 }
 
-#[tactic(auto, unfolding(line_defs::specs::Numbers::fixed_text))]
+#[tactic(auto, unfolding(input_defs::specs::line_defs::Numbers::fixed_text))]
 fn append_fixed(v: i128, to: &mut Vec<u8>) -> Result<(), AllocError>
     ensures text { OnOk result (to.new.items ≡ to.old.items ++ fixed_text v) }
     ensures front { take (length to.old.items) to.new.items ≡ to.old.items }

@@ -3,7 +3,7 @@
 ghost use Rattle.std.specs.Prelude.{◌≡◌, ◌+◌, ◌*◌, ◌-◌, ◌^◌, ◌<◌, ◌≤◌, ◌++◌, length, map, take, get_or, IsTrue};
 ghost use Rattle.std.specs.List.{list_all};
 ghost use Rattle.std.specs.Int.Digits.{number_from_digits_after};
-ghost use Rattle.line_defs.specs.Numbers.{is_digit};
+ghost use Rattle.input_defs.specs.line_defs.Numbers.{is_digit};
 ghost use Rattle.scan.specs.Rounding.{in_range, kept_value};
 
 /// The greatest absolute value of a fixed-point number, in 10^-10.

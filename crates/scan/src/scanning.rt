@@ -1,18 +1,18 @@
 //! The scan of a file: header lines, tokens and quoted texts.
 
 ghost use Rattle.std.specs.Prelude.{◌≡◌, ◌-◌, ◌<◌, ◌≤◌, length, if◌then◌else◌, Some, None, IfSome, IfNone, IfOk};
-ghost use Rattle.scan_defs.specs.Lines.{line_number, front, back};
-ghost use Rattle.scan_defs.specs.Items.{text_of, ahead};
-ghost use Rattle.scan_defs.specs.Quotes.{is_quoted, quoted_from, quoted_in};
-ghost use Rattle.scan_defs.specs.Steps.{moved, line_ahead, next_token, place_after_token, ahead_after_token, next_header, place_after_header, ahead_after_header, place_after_quoted, ahead_after_quoted};
+ghost use Rattle.input_defs.specs.scan_defs.Lines.{line_number, front, back};
+ghost use Rattle.input_defs.specs.scan_defs.Items.{text_of, ahead};
+ghost use Rattle.input_defs.specs.scan_defs.Quotes.{is_quoted, quoted_from, quoted_in};
+ghost use Rattle.input_defs.specs.scan_defs.Steps.{moved, line_ahead, next_token, place_after_token, ahead_after_token, next_header, place_after_header, ahead_after_header, place_after_quoted, ahead_after_quoted};
 ghost use Rattle.scan.specs.Cursors.{IsWithin};
 
 use crate::cursor::{
     Cursor, begins_token, line_end, name_at, past_body, past_gaps, past_header, past_token,
     trimmed_end,
 };
+use input_defs::scan_defs::Token;
 use plex_base::MAX_FILE_BYTES;
-use scan_defs::Token;
 use std::marker::Model;
 
 /// A place in the bytes of a file, from which its header lines, tokens and quoted texts are read
@@ -27,7 +27,7 @@ pub struct Scan<'a> {
 }
 
 impl<'a> Model for Scan<'a> {
-    ghost use Rattle.scan_defs.specs.Items.{Spot};
+    ghost use Rattle.input_defs.specs.scan_defs.Items.{Spot};
     ghost use Rattle.scan.specs.Cursors.{IsScan};
 
     ghost Value = { Spot };

@@ -1,10 +1,10 @@
 //! Whole numbers.
 
 ghost use Rattle.std.specs.Prelude.{◌≡◌, ◌-◌, ◌^◌, min, if◌then◌else◌, Some, None};
-ghost use Rattle.line_defs.specs.Numbers.{is_digit, number_of_digits};
-ghost use Rattle.scan_defs.specs.Numbers.{is_whole, is_minus, without_sign, uint_of, int_of};
+ghost use Rattle.input_defs.specs.line_defs.Numbers.{is_digit, number_of_digits};
+ghost use Rattle.input_defs.specs.scan_defs.Numbers.{is_whole, is_minus, without_sign, uint_of, int_of};
 
-use scan_defs::NumberFault;
+use input_defs::scan_defs::NumberFault;
 
 /// Whether a byte is a decimal digit.
 pub fn is_digit(byte: u8) -> bool
@@ -48,7 +48,7 @@ pub fn split_sign(token: &[u8]) -> (bool, &[u8])
 /// decimal digits, zeros in front allowed, at most 4,294,967,295.
 ///
 /// An `Err` is `NotNumber` where the token has another shape, else `OutOfRange`.
-#[tactic(auto, unfolding(scan_defs::specs::Numbers::uint_of))]
+#[tactic(auto, unfolding(input_defs::specs::scan_defs::Numbers::uint_of))]
 pub fn read_uint(t: &[u8]) -> Result<u32, NumberFault>
     ensures { result ≡ uint_of t.now }
 {
@@ -63,7 +63,7 @@ pub fn read_uint(t: &[u8]) -> Result<u32, NumberFault>
 /// with or without one `-` or `+` in front, from -2,147,483,648 to 2,147,483,647.
 ///
 /// An `Err` is `NotNumber` where the token has another shape, else `OutOfRange`.
-#[tactic(auto, unfolding(scan_defs::specs::Numbers::int_of))]
+#[tactic(auto, unfolding(input_defs::specs::scan_defs::Numbers::int_of))]
 pub fn read_int(t: &[u8]) -> Result<i32, NumberFault>
     ensures { result ≡ int_of t.now }
 {

@@ -19,7 +19,7 @@ mod wanted;
 use algebra::{composed_text, inverted_text, made_text};
 use forest::forest_text;
 use round::round_text;
-use sf_script::ScriptFabric;
+use sf_fabric::script::ScriptFabric;
 use sf_threads::{NoGate, ThreadFabric};
 use shelf_io::{OutSink, Sink};
 use std::env;

@@ -6,6 +6,10 @@
 //! crates that use them hand on.
 #![tactic(auto)]
 
+pub mod meeting;
+pub mod slots;
+pub mod sums;
+
 ghost use Rattle.std.specs.Prelude.{◌≡◌, ◌↔◌, ◌≢◌, IsTrue};
 ghost use Rattle.sf_defs.specs.declared.Op.TheVariants.{Load};
 ghost use Rattle.sf_defs.specs.declared.Tag.TheVariants.{Free};

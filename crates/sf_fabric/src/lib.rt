@@ -7,8 +7,12 @@
 
 mod fabric;
 mod flat;
+pub mod flat_lists;
 mod lists;
+pub mod orders;
+pub mod replays;
 mod round;
+pub mod script;
 
 pub use fabric::Fabric;
 pub use flat::FlatLists;

@@ -1,3 +1,4 @@
 pub mod Asked
 pub mod Folds
 pub mod Copies
+pub mod slots

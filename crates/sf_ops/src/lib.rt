@@ -7,6 +7,8 @@ mod asking;
 mod broadcast;
 mod fetch;
 mod reduction;
+pub mod slots;
+pub mod sums;
 
 pub use broadcast::bcast;
 pub use fetch::fetch_and_op;

@@ -3,11 +3,11 @@ ghost use Rattle.std.specs.Prelude.{◌≡◌, IfOk};
 ghost use Rattle.sf_tests.specs.OneRoot.{leaf_at, one_root};
 
 use crate::texts::turns_of;
+use sf_fabric::replays::replays;
+use sf_fabric::script::ScriptFabric;
 use sf_fabric::{Op, Round, Tag};
 use sf_graph::{Forest, ForestFault, Leaf};
 use sf_ops::fetch_and_op;
-use sf_replays::replays;
-use sf_script::ScriptFabric;
 use std::alloc::Global;
 use std::test::Fail;
 

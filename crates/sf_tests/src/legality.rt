@@ -5,8 +5,8 @@
 //! is legal. An ask is a letter for the operation, a digit for the word and one for the value (`M` is
 //! the last number); a turn is a digit for the rank and one for the place.
 use crate::texts::{asks_of, turns_of, values_of};
+use sf_fabric::replays::replays;
 use sf_fabric::{Ask, Op, Round, Tag, Turn};
-use sf_replays::replays;
 use std::alloc::{AllocError, Global};
 use std::process::Abort;
 use std::test::Fail;

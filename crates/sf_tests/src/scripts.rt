@@ -2,9 +2,9 @@ ghost use Rattle.std.specs.Prelude.{◌≡◌};
 ghost use Rattle.sf_defs.specs.declared.Op.TheVariants.{Sum};
 
 use plex_base::NoMemory;
+use sf_fabric::replays::replays;
+use sf_fabric::script::ScriptFabric;
 use sf_fabric::{Ask, Op, Round, Tag, Turn};
-use sf_replays::replays;
-use sf_script::ScriptFabric;
 use std::alloc::Global;
 use std::test::Fail;
 

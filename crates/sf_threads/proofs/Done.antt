@@ -2,7 +2,7 @@
 use Rattle.std.proofs.Common.{◌≡◌, ℕ, zero, suc, ◌+◌, ◌<◌, List, [], ◌∷◌, ◌++◌, map, length, take, zip, set, get_or, refl, ap, ◌∙◌, arith}
 use Rattle.std.specs.List.{enumerate_from}
 use Rattle.sf_defs.specs.declared.Ask.{Ask}
-use Rattle.thread_rule.specs.declared.view.Done.{Done}
+use Rattle.sf_threads.specs.declared.thread_rule.view.Done.{Done}
 use Rattle.sf_threads.specs.Doing.{dones}
 
 abbrev done_at : ℕ → ℕ × (Ask × ℕ) → Done

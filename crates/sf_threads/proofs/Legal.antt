@@ -11,10 +11,10 @@ use Rattle.sf_defs.specs.declared.Op.TheVariants.{Load}
 use Rattle.sf_defs.specs.Rounds.{Round, MeetsConditions, IsLegal, all_asks, rank_entries, printed_turns}
 use Rattle.round_laws.specs.ReplayingOrders.{IsPrinted}
 use Rattle.round_laws.proofs.Legal.{legal-from-orders}
-use Rattle.sf_orders.specs.Places.{AreAsked}
-use Rattle.thread_rule.specs.declared.view.Key.{Key}
-use Rattle.thread_rule.specs.Rule.{entry_of, view}
-use Rattle.thread_rule.proofs.Ending.{ends}
+use Rattle.sf_fabric.specs.orders.Places.{AreAsked}
+use Rattle.sf_threads.specs.declared.thread_rule.view.Key.{Key}
+use Rattle.sf_threads.specs.thread_rule.Rule.{entry_of, view}
+use Rattle.sf_threads.proofs.thread_rule.Ending.{ends}
 use Rattle.sf_threads.specs.Doing.{IsDoable, AreDoable, dones, all_dones}
 use Rattle.sf_threads.specs.Played.{HasPlayed, IsPlayable, HaveOrders}
 

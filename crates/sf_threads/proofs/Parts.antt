@@ -9,8 +9,8 @@ use Rattle.plain_lists.specs.Vectors.{lists_of}
 use Rattle.sf_fabric.specs.Cut.{shared}
 use Rattle.sf_defs.specs.declared.Ask.{Ask}
 use Rattle.atomic_table.specs.Table.{Me}
-use Rattle.thread_rule.specs.declared.view.View.{View}
-use Rattle.thread_rule.specs.Rule.{view, joined}
+use Rattle.sf_threads.specs.declared.thread_rule.view.View.{View}
+use Rattle.sf_threads.specs.thread_rule.Rule.{view, joined}
 use Rattle.sf_threads.specs.Doing.{dones, all_dones}
 
 -- values shared out to the first rank and to the others

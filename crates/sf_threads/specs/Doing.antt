@@ -3,7 +3,7 @@ use Rattle.std.specs.Prelude.{◌≡◌, ℕ, ◌+◌, ◌<◌, ◌^◌, List, [
 use Rattle.std.specs.List.{AllByRecursion, enumerate_from}
 use Rattle.sf_defs.specs.declared.Op.TheVariants.{Load}
 use Rattle.sf_defs.specs.declared.Ask.{Ask}
-use Rattle.thread_rule.specs.declared.view.Done.{Done}
+use Rattle.sf_threads.specs.declared.thread_rule.view.Done.{Done}
 
 -- an ask that can be done on so many words
 pub record IsDoable (words : ℕ) (a : Ask) : Type 0 where

@@ -1,2 +1,3 @@
 pub mod Doing
 pub mod Played
+pub mod thread_rule

@@ -7,9 +7,9 @@ use Rattle.atomic_table.specs.Table.{State}
 use Rattle.sf_defs.specs.declared.Ask.{Ask}
 use Rattle.sf_defs.specs.Asks.{Entry, Replays, on_word, IsOrderOf}
 use Rattle.sf_defs.specs.Rounds.{entries}
-use Rattle.thread_rule.specs.declared.view.Key.{Key}
-use Rattle.thread_rule.specs.declared.view.View.{View}
-use Rattle.thread_rule.specs.Rule.{view, Kept}
+use Rattle.sf_threads.specs.declared.thread_rule.view.Key.{Key}
+use Rattle.sf_threads.specs.declared.thread_rule.view.View.{View}
+use Rattle.sf_threads.specs.thread_rule.Rule.{view, Kept}
 use Rattle.sf_threads.specs.Doing.{AreDoable, all_dones}
 
 -- The rule held at the end, and one seat had all ranks, with all that they were asked and what they fetched.

@@ -1,12 +1,12 @@
 //! The asks of one rank.
 ghost use Rattle.std.specs.Prelude.{◌≡◌, ◌+◌, ◌<◌, [], ◌∷◌, ◌++◌, length};
-ghost use Rattle.thread_rule.specs.Rule.{view};
+ghost use Rattle.sf_threads.specs.thread_rule.Rule.{view};
 ghost use Rattle.sf_threads.specs.Doing.{IsDoable, AreDoable, dones};
 
 use crate::gate::Gate;
+use crate::thread_rule::{Ands, Key, Loads, Maxes, Mins, Ors, Replaces, RoundRule, Sums, View};
 use atomic_table::{Seat, Shared};
 use sf_defs::{Ask, Op};
-use thread_rule::{Ands, Key, Loads, Maxes, Mins, Ors, Replaces, RoundRule, Sums, View};
 
 /// The words as ranks share them.
 pub(crate) type Words = Shared<(), View, Key, RoundRule>;

@@ -10,6 +10,7 @@ mod gate;
 mod play;
 mod ranks;
 mod round;
+pub mod thread_rule;
 
 pub use fabric::ThreadFabric;
 pub use gate::{Gate, NoGate};

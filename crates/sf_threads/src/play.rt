@@ -5,18 +5,18 @@ ghost use Rattle.plain_lists.specs.Vectors.{lists_of};
 ghost use Rattle.sf_fabric.specs.Cut.{shared};
 ghost use Rattle.atomic_table.specs.Table.{Final, Seen};
 ghost use Rattle.std.specs.Mem.Slots.{slots_items, slots_len, IsFull};
-ghost use Rattle.thread_rule.specs.Rule.{Kept};
+ghost use Rattle.sf_threads.specs.thread_rule.Rule.{Kept};
 ghost use Rattle.sf_threads.specs.Played.{HasPlayed, IsPlayable};
 
 use crate::asking::RankSeat;
 use crate::gate::Gate;
 use crate::ranks::do_all;
+use crate::thread_rule::{Key, RoundRule, View};
 use atomic_table::{Closed, Table};
 use plex_base::NoMemory;
 use sf_defs::Ask;
 use std::alloc::Global;
 use std::thread::Threads;
-use thread_rule::{Key, RoundRule, View};
 
 /// Does all asks on a table of the key's words, puts what they fetched into `got`, one rank's after another's, and answers the words afterwards.
 pub(crate) fn play<R: Threads, G: Gate>(

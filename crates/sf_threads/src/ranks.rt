@@ -4,14 +4,14 @@ ghost use Rattle.std.specs.List.{AllByRecursion, sum_by};
 ghost use Rattle.std.specs.Thread.{IsSync};
 ghost use Rattle.plain_lists.specs.Vectors.{lists_of};
 ghost use Rattle.sf_fabric.specs.Cut.{shared};
-ghost use Rattle.thread_rule.specs.Rule.{view};
+ghost use Rattle.sf_threads.specs.thread_rule.Rule.{view};
 ghost use Rattle.sf_threads.specs.Doing.{AreDoable, dones, all_dones};
 
 use crate::asking::{RankSeat, Words, do_asks};
 use crate::gate::Gate;
+use crate::thread_rule::{Halves, Joined};
 use sf_defs::Ask;
 use std::thread::{Threads, join_mut};
-use thread_rule::{Halves, Joined};
 
 /// Does the asks of all ranks from `first` on, each rank's in a thread of its own where one can be started, and
 /// puts what they fetched into `got`, one rank's after another's.

@@ -8,13 +8,13 @@ ghost use Rattle.sf_threads.specs.Played.{HaveOrders};
 
 use crate::gate::Gate;
 use crate::play::play;
+use crate::thread_rule::Key;
 use plex_base::NoMemory;
 use sf_defs::{Ask, Tag};
+use sf_fabric::orders::printed_orders;
 use sf_fabric::{FlatLists, Round};
-use sf_orders::printed_orders;
 use std::alloc::Global;
 use std::thread::Threads;
-use thread_rule::Key;
 
 /// The round in which each rank does its asks in a thread of its own.
 pub(crate) fn thread_round<R: Threads, G: Gate>(

@@ -3,10 +3,10 @@ use Rattle.std.proofs.Common.{◌≡◌, ◌⊎◌, ℕ, ◌<◌, ◌≤◌, Boo
 use Rattle.std.specs.List.{AllByRecursion, list_any}
 use Rattle.std.proofs.lemmas.Bool.{cases_lt, eq-eqb}
 use Rattle.std.proofs.lemmas.List.{get_or_default}
-use Rattle.share_laws.specs.Packed.{no_vertex}
-use Rattle.meeting_laws.specs.Sets.{RankChart, Rising, chart_at, has_vertex}
-use Rattle.meeting_laws.specs.Steps.{is_copied, may_share, vertex_at, vertex_place}
-use Rattle.meeting_laws.proofs.Homes.{placed-vertex}
+use Rattle.rank_laws.specs.share_laws.Packed.{no_vertex}
+use Rattle.rank_chart_laws.specs.meeting_laws.Sets.{RankChart, Rising, chart_at, has_vertex}
+use Rattle.rank_chart_laws.specs.meeting_laws.Steps.{is_copied, may_share, vertex_at, vertex_place}
+use Rattle.rank_chart_laws.proofs.meeting_laws.Homes.{placed-vertex}
 use Rattle.shared_forest.specs.Flags.{TellCopies, AreFlagged, all_up}
 
 -- what stands at a place is among all

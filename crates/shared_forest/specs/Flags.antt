@@ -1,9 +1,9 @@
 -- Flags on the vertices of a rank.
 use Rattle.std.specs.Prelude.{◌≡◌, ◌⊎◌, ℕ, ◌<◌, Bool, true, false, ◌||◌, ◌==◌, List, length, get_or}
 use Rattle.std.specs.List.{AllByRecursion, list_all}
-use Rattle.share_laws.specs.Packed.{no_vertex}
-use Rattle.meeting_laws.specs.Sets.{RankChart, chart_at, has_vertex}
-use Rattle.meeting_laws.specs.Steps.{is_copied}
+use Rattle.rank_laws.specs.share_laws.Packed.{no_vertex}
+use Rattle.rank_chart_laws.specs.meeting_laws.Sets.{RankChart, chart_at, has_vertex}
+use Rattle.rank_chart_laws.specs.meeting_laws.Steps.{is_copied}
 
 -- the flag of each vertex of a rank tells whether another rank has it too
 abbrev pub TellCopies : List RankChart → ℕ → List Bool → Type 0

@@ -1,7 +1,7 @@
 //! Which faces and edges may be shared.
 ghost use Rattle.std.specs.Prelude.{◌≡◌, ◌<◌, length, IfOk};
-ghost use Rattle.meeting_laws.specs.Sets.{AreRankCharts};
-ghost use Rattle.meeting_laws.specs.Steps.{candidates, vertex_forest};
+ghost use Rattle.rank_chart_laws.specs.meeting_laws.Sets.{AreRankCharts};
+ghost use Rattle.rank_chart_laws.specs.meeting_laws.Steps.{candidates, vertex_forest};
 ghost use Rattle.shared_forest.specs.Flags.{AreFlagged, all_up};
 
 use crate::charts::{NO_VERTEX, RankCharts};

@@ -1,6 +1,6 @@
 //! What the ranks have.
 ghost use Rattle.std.specs.Prelude.{◌≡◌, ◌<◌, List, get_or, length};
-ghost use Rattle.meeting_laws.specs.Sets.{RankChart, chart_at};
+ghost use Rattle.rank_chart_laws.specs.meeting_laws.Sets.{RankChart, chart_at};
 
 /// Stands in a set in the places behind its last vertex.
 pub const NO_VERTEX: u32 = 4294967295;

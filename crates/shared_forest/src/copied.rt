@@ -1,7 +1,7 @@
 //! Which vertices of a rank other ranks have too.
 ghost use Rattle.std.specs.Prelude.{◌≡◌, ℕ, ◌<◌, get_or, length, IfOk};
-ghost use Rattle.meeting_laws.specs.Sets.{AreRankCharts, Rising, chart_at};
-ghost use Rattle.meeting_laws.specs.Steps.{is_copied, vertex_at, vertex_forest};
+ghost use Rattle.rank_chart_laws.specs.meeting_laws.Sets.{AreRankCharts, Rising, chart_at};
+ghost use Rattle.rank_chart_laws.specs.meeting_laws.Steps.{is_copied, vertex_at, vertex_forest};
 ghost use Rattle.shared_forest.specs.Flags.{TellCopies};
 
 use crate::charts::RankCharts;

@@ -2,19 +2,19 @@
 ghost use Rattle.std.specs.Prelude.{◌≡◌, length, map, IfOk};
 ghost use Rattle.plain_lists.specs.Lists.{below};
 ghost use Rattle.plain_lists.specs.Vectors.{lists_of};
-ghost use Rattle.meet_defs.specs.Meeting.{AreMet};
-ghost use Rattle.meeting_laws.specs.Sets.{AreRankCharts, forest_of_sets, point_count};
-ghost use Rattle.meeting_laws.specs.Steps.{all_ids, all_keys, candidates, joined_forest, meeting_forest, vertex_forest};
+ghost use Rattle.sf_defs.specs.meeting.Meeting.{AreMet};
+ghost use Rattle.rank_chart_laws.specs.meeting_laws.Sets.{AreRankCharts, forest_of_sets, point_count};
+ghost use Rattle.rank_chart_laws.specs.meeting_laws.Steps.{all_ids, all_keys, candidates, joined_forest, meeting_forest, vertex_forest};
 
 use crate::candidates::candidates;
 use crate::charts::RankCharts;
 use crate::joining::joined_leaves;
 use crate::meeting::{meeting_ids, meeting_keys, meeting_leaves};
+use crate::sf_meet::meet;
 use crate::vertices::{made_of, vertex_counts, vertex_forest};
 use plex_base::NoMemory;
 use sf_fabric::Fabric;
 use sf_graph::Forest;
-use sf_meet::meet;
 use std::alloc::Global;
 
 /// The star forest of the points that the ranks share: every point is a root, and the leaves of a rank are

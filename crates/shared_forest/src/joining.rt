@@ -1,7 +1,7 @@
 //! The leaves that ranks join after the meeting.
 ghost use Rattle.std.specs.Prelude.{◌≡◌, ◌<◌, ◌++◌, length, IfOk, OnOk};
-ghost use Rattle.meeting_laws.specs.Sets.{AreRankCharts};
-ghost use Rattle.meeting_laws.specs.Steps.{candidates, joined_leaves, joined_sets, joined_vertices};
+ghost use Rattle.rank_chart_laws.specs.meeting_laws.Sets.{AreRankCharts};
+ghost use Rattle.rank_chart_laws.specs.meeting_laws.Steps.{candidates, joined_leaves, joined_sets, joined_vertices};
 
 use crate::charts::RankCharts;
 use crate::vertices::place_of;

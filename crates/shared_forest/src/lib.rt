@@ -12,6 +12,7 @@ mod copied;
 mod forest;
 mod joining;
 mod meeting;
+pub mod sf_meet;
 mod vertices;
 
 pub use charts::{NO_VERTEX, RankCharts};

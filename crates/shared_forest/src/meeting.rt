@@ -1,8 +1,8 @@
 //! What the ranks bring to the meeting.
 ghost use Rattle.std.specs.Prelude.{◌≡◌, ◌+◌, ◌*◌, ◌^◌, ◌<◌, length, IfOk};
-ghost use Rattle.share_laws.specs.Packed.{packed};
-ghost use Rattle.meeting_laws.specs.Sets.{AreRankCharts, IsSetOf, chart_at};
-ghost use Rattle.meeting_laws.specs.Steps.{candidates, meeting_ids, meeting_keys, meeting_leaves, meeting_place};
+ghost use Rattle.rank_laws.specs.share_laws.Packed.{packed};
+ghost use Rattle.rank_chart_laws.specs.meeting_laws.Sets.{AreRankCharts, IsSetOf, chart_at};
+ghost use Rattle.rank_chart_laws.specs.meeting_laws.Steps.{candidates, meeting_ids, meeting_keys, meeting_leaves, meeting_place};
 
 use crate::charts::RankCharts;
 use crate::vertices::place_of;
@@ -69,7 +69,7 @@ pub(crate) fn meeting_keys<C: RankCharts>(
 }
 
 /// A set in two words.
-#[tactic(auto, unfolding(share_laws::specs::Packed::packed))]
+#[tactic(auto, unfolding(rank_laws::specs::share_laws::Packed::packed))]
 fn packed_set(set: [u32; 4]) -> [u64; 2]
     ensures { result ≡ packed set }
 {

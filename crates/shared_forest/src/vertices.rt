@@ -3,8 +3,8 @@ ghost use Rattle.std.specs.Prelude.{◌≡◌, ◌==◌, ◌^◌, ◌<◌, true,
 ghost use Rattle.std.specs.List.{list_any, position_or_len};
 ghost use Rattle.plain_lists.specs.Vectors.{lists_of};
 ghost use Rattle.sf_graph.specs.Parts.{forest_of, IsForRanks};
-ghost use Rattle.meeting_laws.specs.Sets.{AreRankCharts, RankChart, Rising, chart_at};
-ghost use Rattle.meeting_laws.specs.Steps.{ghost_leaves, vertex_forest};
+ghost use Rattle.rank_chart_laws.specs.meeting_laws.Sets.{AreRankCharts, RankChart, Rising, chart_at};
+ghost use Rattle.rank_chart_laws.specs.meeting_laws.Steps.{ghost_leaves, vertex_forest};
 
 use crate::charts::RankCharts;
 use plex_base::NoMemory;

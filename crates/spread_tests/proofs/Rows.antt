@@ -11,8 +11,8 @@ use Rattle.mesh_defs.specs.Mesh.{Mesh, Cell, Section}
 use Rattle.plex_defs.specs.Fields.{row_values}
 use Rattle.rank_defs.specs.Ranks.{assigned}
 use Rattle.rank_defs.specs.Spread.{ScatterPart, PlainScatter, IsScatter, scatter_part, plain_scatter, section_numbers}
-use Rattle.scatter_state.specs.Parts.{rows_at}
-use Rattle.scatter_state.specs.Whole.{part_at}
+use Rattle.dist_state.specs.scatter_state.Parts.{rows_at}
+use Rattle.dist_state.specs.scatter_state.Whole.{part_at}
 
 no_section : Section
 no_section = record { name = []; on = Node; comps = 0; rows = [] }

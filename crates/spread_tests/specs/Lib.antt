@@ -1,1 +1,3 @@
 pub mod Some
+pub mod orient_tests
+pub mod local_points_tests

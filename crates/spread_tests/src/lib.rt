@@ -3,7 +3,11 @@
 //! ranks share of them serve tests of later steps too.
 #![tactic(auto)]
 
+pub mod caller_tests;
+pub mod local_points_tests;
 mod meshes;
+pub mod orient_tests;
+pub mod report_tests;
 #[cfg(test)]
 mod seeds;
 #[cfg(test)]
@@ -11,6 +15,7 @@ mod shares;
 mod spreads;
 #[cfg(test)]
 mod squares;
+pub mod walk_tests;
 
 pub use meshes::{THREE_TRIANGLES, TWO_CUBES};
 pub use spreads::{shared_of, shared_over};

@@ -1,6 +1,6 @@
 ghost use Rattle.std.specs.Prelude.{◌≡◌, ◌<◌, length, IfOk};
-ghost use Rattle.scatter_state.specs.Parts.{rows_at};
-ghost use Rattle.scatter_state.specs.Whole.{part_at};
+ghost use Rattle.dist_state.specs.scatter_state.Parts.{rows_at};
+ghost use Rattle.dist_state.specs.scatter_state.Whole.{part_at};
 ghost use Rattle.spread_tests.specs.Some.{IsSomeScatter};
 
 use crate::meshes::THREE_TRIANGLES;
@@ -8,7 +8,7 @@ use crate::spreads::scatter_over;
 use dist_seed::Scatter;
 use mesh_defs::{Place, Poly};
 use plex_base::Dim;
-use sf_script::ScriptFabric;
+use sf_fabric::script::ScriptFabric;
 use std::alloc::Global;
 use std::test::Fail;
 use std::thread::Threads;

@@ -9,7 +9,7 @@ use msh_reader::read_msh;
 use plan_reader::{Plan, read_plan};
 use plex_base::NoMemory;
 use sf_fabric::Fabric;
-use sf_script::ScriptFabric;
+use sf_fabric::script::ScriptFabric;
 use std::alloc::Global;
 use std::test::Fail;
 use std::thread::Threads;

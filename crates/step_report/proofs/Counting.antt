@@ -10,10 +10,10 @@ use Rattle.rank_defs.specs.Spread.{LocalMesh, PlainDist}
 use Rattle.mesh_defs.specs.declared.Poly.{Poly}
 use Rattle.mesh_defs.specs.declared.Poly.TheVariants.{Vertex, Segment, Triangle, Quad, Tet, Hex}
 use Rattle.mesh_defs.specs.Tables.{dim_of}
-use Rattle.text_defs.specs.Text.{total_line}
-use Rattle.report_lines.specs.declared.steps.Totals.{Totals}
-use Rattle.step_defs.specs.Points.{owned_by, count_of}
-use Rattle.step_defs.specs.Steps.{own, own_cells, own_faces, own_in, ranks_of, plain_total}
+use Rattle.input_defs.specs.text_defs.Text.{total_line}
+use Rattle.report.specs.declared.report_lines.steps.Totals.{Totals}
+use Rattle.walk_defs.specs.step_defs.Points.{owned_by, count_of}
+use Rattle.walk_defs.specs.step_defs.Steps.{own, own_cells, own_faces, own_in, ranks_of, plain_total}
 use Rattle.step_report.specs.Conditions.{local_at}
 use Rattle.step_report.specs.Counts.{is_of, has_dim, over_first, AreTotals}
 use Rattle.step_report.proofs.Going.{below-push, by-places}

@@ -9,8 +9,8 @@ use Rattle.sf_defs.specs.declared.Tag.TheVariants.{Free}
 use Rattle.sf_defs.specs.declared.Ask.{Ask}
 use Rattle.sf_defs.specs.declared.Turn.{Turn}
 use Rattle.sf_defs.specs.Rounds.{Round, IsLegal, places_of, places_on}
-use Rattle.step_defs.specs.Steps.{plain_round}
-use Rattle.report_lines.specs.Windows.{HasEntry, HasEntries}
+use Rattle.walk_defs.specs.step_defs.Steps.{plain_round}
+use Rattle.report.specs.report_lines.Windows.{HasEntry, HasEntries}
 use Rattle.step_report.proofs.Going.{texts-by_places}
 use Rattle.step_report.proofs.Placing.{enumerate-unplaced}
 

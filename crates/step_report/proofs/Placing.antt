@@ -10,8 +10,8 @@ use Rattle.std.proofs.lemmas.List.Concat.{flat_map-append}
 use Rattle.plain_lists.specs.Lists.{below}
 use Rattle.plain_lists.proofs.Each.{all_from}
 use Rattle.plain_lists.proofs.Filters.{filter_whole, filter_filter}
-use Rattle.step_defs.specs.Points.{points_of, owned_by}
-use Rattle.step_defs.specs.Steps.{plain_points, plain_locals, plain_closures, plain_traces}
+use Rattle.walk_defs.specs.step_defs.Points.{points_of, owned_by}
+use Rattle.walk_defs.specs.step_defs.Steps.{plain_points, plain_locals, plain_closures, plain_traces}
 use Rattle.step_report.specs.declared.desk.Desk.{Desk}
 use Rattle.step_report.specs.declared.desk.PointLines.{PointLines}
 use Rattle.step_report.specs.declared.desk.PointLines.TheVariants.{Owned, Held, Closures, Traces}

@@ -9,10 +9,10 @@ use Rattle.plain_lists.specs.Lists.{below}
 use Rattle.plain_lists.proofs.Filters.{count-append}
 use Rattle.headline_defs.specs.Lines.{sum_line}
 use Rattle.rank_defs.specs.Spread.{LocalMesh, PlainDist}
-use Rattle.step_defs.specs.Words.{signed_of}
-use Rattle.step_defs.specs.Points.{covers_of}
-use Rattle.step_defs.specs.Steps.{own, words_in, coordinates_at, of_owned, ranks_of, plain_sums}
-use Rattle.report_lines.specs.declared.steps.Sums.{Sums}
+use Rattle.walk_defs.specs.step_defs.Words.{signed_of}
+use Rattle.walk_defs.specs.step_defs.Points.{covers_of}
+use Rattle.walk_defs.specs.step_defs.Steps.{own, words_in, coordinates_at, of_owned, ranks_of, plain_sums}
+use Rattle.report.specs.declared.report_lines.steps.Sums.{Sums}
 use Rattle.step_report.specs.Conditions.{no_local, local_at}
 use Rattle.step_report.specs.Counts.{is_of, owned_before, over_first}
 use Rattle.step_report.specs.Sums.{is_back, data_of, dofs_of, AddsPoint, so_far, AreSums}

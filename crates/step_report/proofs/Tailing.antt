@@ -4,9 +4,9 @@ use Rattle.std.specs.Prelude.{flat_map}
 use Rattle.std.proofs.lemmas.Bool.Decides.{nat_tests}
 use Rattle.mesh_defs.specs.declared.ConeEntry.{ConeEntry}
 use Rattle.mesh_defs.specs.Diagram.{Diagram}
-use Rattle.text_defs.specs.Text.{entry_text, tail_text}
+use Rattle.input_defs.specs.text_defs.Text.{entry_text, tail_text}
 use Rattle.rank_defs.specs.Spread.{LocalMesh}
-use Rattle.step_defs.specs.Points.{tail_of}
+use Rattle.walk_defs.specs.step_defs.Points.{tail_of}
 use Rattle.plex_chart.specs.Chart.{FitsChart, IsInStratum}
 use Rattle.step_report.specs.Tails.{rest_of}
 

@@ -5,8 +5,8 @@ use Rattle.mesh_defs.specs.Diagram.{Diagram}
 use Rattle.sf_defs.specs.Forest.{Forest, leaves_on}
 use Rattle.sf_defs.specs.Rounds.{IsLegal}
 use Rattle.rank_defs.specs.Spread.{LocalMesh, PlainDist}
-use Rattle.step_defs.specs.Points.{owned_by}
-use Rattle.step_defs.specs.Steps.{Printed, numbers_on}
+use Rattle.walk_defs.specs.step_defs.Points.{owned_by}
+use Rattle.walk_defs.specs.step_defs.Steps.{Printed, numbers_on}
 
 -- where there is no rank
 abbrev pub no_diagram : Diagram

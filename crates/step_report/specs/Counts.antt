@@ -3,9 +3,9 @@ use Rattle.std.specs.Prelude.{◌≡◌, ℕ, ◌*◌, ◌<◌, ◌≤◌, Bool,
 use Rattle.plain_lists.specs.Lists.{below}
 use Rattle.mesh_defs.specs.Tables.{dim_of}
 use Rattle.rank_defs.specs.Spread.{LocalMesh, PlainDist}
-use Rattle.step_defs.specs.Points.{owner_of, poly_of}
-use Rattle.step_defs.specs.Steps.{own, own_cells, own_faces, own_in}
-use Rattle.report_lines.specs.declared.steps.Totals.{Totals}
+use Rattle.walk_defs.specs.step_defs.Points.{owner_of, poly_of}
+use Rattle.walk_defs.specs.step_defs.Steps.{own, own_cells, own_faces, own_in}
+use Rattle.report.specs.declared.report_lines.steps.Totals.{Totals}
 use Rattle.step_report.specs.declared.counts.Counts.{Counts}
 use Rattle.step_report.specs.Conditions.{local_at}
 

@@ -7,8 +7,8 @@ use Rattle.sf_defs.specs.Forest.{Forest, leaf, leaves_on}
 use Rattle.rank_defs.specs.Spread.{LocalMesh}
 use Rattle.headline_defs.specs.Lines.{closure_line, trace_line}
 use Rattle.walk_defs.specs.Cones.{closure_by_cones}
-use Rattle.step_defs.specs.Points.{owned_by, owner_of, poly_of, renamed}
-use Rattle.step_defs.specs.Steps.{numbers_on, point_line, local_line, plain_points, plain_locals, plain_closures, plain_traces}
+use Rattle.walk_defs.specs.step_defs.Points.{owned_by, owner_of, poly_of, renamed}
+use Rattle.walk_defs.specs.step_defs.Steps.{numbers_on, point_line, local_line, plain_points, plain_locals, plain_closures, plain_traces}
 use Rattle.dist_state.specs.Local.{IsLocalMesh}
 use Rattle.step_report.specs.declared.desk.Desk.{Desk}
 use Rattle.step_report.specs.declared.desk.PointLines.{PointLines}

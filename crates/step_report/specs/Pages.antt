@@ -4,7 +4,7 @@ use Rattle.sf_defs.specs.Rounds.{Round}
 use Rattle.input_defs.specs.declared.Show.{Show}
 use Rattle.headline_defs.specs.StepText.{where_shown}
 use Rattle.rank_defs.specs.Spread.{LocalMesh}
-use Rattle.step_defs.specs.Steps.{ranks_of, plain_rank, plain_ghosts, plain_total, plain_round}
+use Rattle.walk_defs.specs.step_defs.Steps.{ranks_of, plain_rank, plain_ghosts, plain_total, plain_round}
 use Rattle.step_report.specs.declared.pages.Pages.{Pages}
 use Rattle.step_report.specs.declared.pages.Lines.{Lines}
 use Rattle.step_report.specs.declared.pages.Lines.TheVariants as kinds

@@ -3,10 +3,10 @@ use Rattle.std.specs.Prelude.{◌≡◌, ℕ, ◌+◌, Bool, if◌then◌else◌
 use Rattle.plain_lists.specs.Lists.{below}
 use Rattle.mesh_defs.specs.declared.ConeEntry.{ConeEntry}
 use Rattle.rank_defs.specs.Spread.{LocalMesh, PlainDist}
-use Rattle.step_defs.specs.Words.{signed_of}
-use Rattle.step_defs.specs.Points.{covers_of}
-use Rattle.step_defs.specs.Steps.{own, words_in, coordinates_at}
-use Rattle.report_lines.specs.declared.steps.Sums.{Sums}
+use Rattle.walk_defs.specs.step_defs.Words.{signed_of}
+use Rattle.walk_defs.specs.step_defs.Points.{covers_of}
+use Rattle.walk_defs.specs.step_defs.Steps.{own, words_in, coordinates_at}
+use Rattle.report.specs.declared.report_lines.steps.Sums.{Sums}
 use Rattle.step_report.specs.Conditions.{local_at}
 use Rattle.step_report.specs.Counts.{owned_before, over_first}
 

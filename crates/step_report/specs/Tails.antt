@@ -1,9 +1,9 @@
 -- What stands after the cone in the line of a point.
 use Rattle.std.specs.Prelude.{ℕ, ◌-◌, ◌==◌, if◌then◌else◌, List, [], ◌++◌, get_or}
 use Rattle.mesh_defs.specs.Tables.{dim_of}
-use Rattle.text_defs.specs.Text.{at_text}
+use Rattle.input_defs.specs.text_defs.Text.{at_text}
 use Rattle.rank_defs.specs.Spread.{LocalMesh}
-use Rattle.step_defs.specs.Points.{poly_of, labels_of, fields_of}
+use Rattle.walk_defs.specs.step_defs.Points.{poly_of, labels_of, fields_of}
 
 -- the coordinates of a vertex
 abbrev pub coordinates_of : LocalMesh → ℕ → List ℕ

@@ -2,7 +2,7 @@
 
 ghost use Rattle.std.specs.Prelude.{◌≡◌, ℕ, ◌+◌, ◌<◌, ◌≤◌, length, get_or};
 ghost use Rattle.std.specs.List.{AllByRecursion};
-ghost use Rattle.step_defs.specs.Points.{owner_of, owned_by, count_of};
+ghost use Rattle.walk_defs.specs.step_defs.Points.{owner_of, owned_by, count_of};
 ghost use Rattle.step_report.specs.Counts.{IsCounted, AreCounted};
 
 use dist_state::RankMesh;

@@ -10,7 +10,7 @@ use cause_defs::ReportFault;
 use dist_number::Numbers;
 use dist_state::RankMesh;
 use poly_tables::dim;
-use report_lines::write_line;
+use report::report_lines::write_line;
 use sf_graph::Forest;
 use shelf_io::Sink;
 

@@ -3,14 +3,14 @@
 ghost use Rattle.std.specs.Prelude.{◌≡◌, ◌<◌, ◌≤◌, length};
 ghost use Rattle.std.specs.List.{AllByRecursion};
 ghost use Rattle.cause_defs.specs.Reports.{Reports};
-ghost use Rattle.step_defs.specs.Points.{owned_by};
-ghost use Rattle.step_defs.specs.Steps.{plain_ghosts};
+ghost use Rattle.walk_defs.specs.step_defs.Points.{owned_by};
+ghost use Rattle.walk_defs.specs.step_defs.Steps.{plain_ghosts};
 ghost use Rattle.step_report.specs.Ghosts.{ghost_text};
 
 use crate::counts::count_owners;
 use cause_defs::ReportFault;
 use dist_state::RankMesh;
-use report_lines::{append_ghost_line, write_line};
+use report::report_lines::{append_ghost_line, write_line};
 use shelf_io::Sink;
 
 /// Writes the line of the points of a rank that another one owns, where there are some.

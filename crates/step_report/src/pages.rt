@@ -3,7 +3,7 @@
 ghost use Rattle.std.specs.Prelude.{◌≡◌, ◌<◌, length, flat_map};
 ghost use Rattle.cause_defs.specs.Reports.{Reports};
 ghost use Rattle.headline_defs.specs.StepText.{where_shown};
-ghost use Rattle.step_defs.specs.Steps.{ranks_of, plain_rank, plain_total};
+ghost use Rattle.walk_defs.specs.step_defs.Steps.{ranks_of, plain_rank, plain_total};
 ghost use Rattle.step_report.specs.Conditions.{local_at};
 ghost use Rattle.step_report.specs.declared.pages.Lines.TheVariants as kinds;
 ghost use Rattle.step_report.specs.Desks.{plain_lines};
@@ -17,7 +17,7 @@ use crate::totals::append_total;
 use cause_defs::ReportFault;
 use dist_number::{Bases, Numbers};
 use dist_state::{Dist, RankMesh};
-use report_lines::{RankCounts, append_rank_line, write_line};
+use report::report_lines::{RankCounts, append_rank_line, write_line};
 use sf_graph::Forest;
 use shelf_io::Sink;
 
@@ -42,7 +42,7 @@ pub(crate) struct Pages<'a> {
 }
 
 /// Writes the line of a rank.
-#[tactic(auto, unfolding(step_defs::specs::Steps::plain_rank))]
+#[tactic(auto, unfolding(walk_defs::specs::step_defs::Steps::plain_rank))]
 fn write_rank<W: Sink>(
     line: &mut Vec<u8>,
     rank: u32,

@@ -1,7 +1,7 @@
 //! The line of a point, of each kind.
 
 ghost use Rattle.std.specs.Prelude.{◌≡◌, ◌++◌, ◌<◌, length, OnOk};
-ghost use Rattle.step_defs.specs.Steps.{place_at_owner};
+ghost use Rattle.walk_defs.specs.step_defs.Steps.{place_at_owner};
 ghost use Rattle.step_report.specs.declared.desk.PointLines.TheVariants as kinds;
 ghost use Rattle.step_report.specs.Desks.{FitsDesk, HasLeaf, line_of};
 
@@ -10,11 +10,11 @@ use crate::pen::Pen;
 use crate::tails::{append_local_tail, append_name, append_numbered, append_numbered_tail};
 use plex_base::NoMemory;
 use plex_walk::closure_into;
-use report_lines::{append_also, append_field, append_trace_line};
+use report::report_lines::{append_also, append_field, append_trace_line};
 use sf_graph::Forest;
 
 /// An owned point under its number.
-#[tactic(auto, unfolding(step_defs::specs::Steps::point_line), using(std::proofs::Common::append_assoc))]
+#[tactic(auto, unfolding(walk_defs::specs::step_defs::Steps::point_line), using(std::proofs::Common::append_assoc))]
 fn append_owned(desk: &Desk<'_>, line: &mut Vec<u8>, p: u32) -> Result<(), NoMemory>
     requires fits { FitsDesk desk.now }
     requires p { p < length desk.now.local.now.diagram.points }
@@ -40,7 +40,7 @@ fn place_at_owner(points: &Forest, rank: u32, p: u32) -> u32
 }
 
 /// A held point under its local number, with its owner and its place there.
-#[tactic(auto, unfolding(step_defs::specs::Steps::local_line), using(std::proofs::Common::append_assoc))]
+#[tactic(auto, unfolding(walk_defs::specs::step_defs::Steps::local_line), using(std::proofs::Common::append_assoc))]
 fn append_held(desk: &Desk<'_>, line: &mut Vec<u8>, p: u32) -> Result<(), NoMemory>
     requires fits { FitsDesk desk.now }
     requires p { p < length desk.now.local.now.diagram.points }

@@ -6,11 +6,11 @@ ghost use Rattle.cause_defs.specs.Reports.{Reports};
 ghost use Rattle.sf_defs.specs.Rounds.{IsLegal, in_order};
 ghost use Rattle.headline_defs.specs.Lines.{window_line};
 ghost use Rattle.headline_defs.specs.StepText.{windows_text, where_shown};
-ghost use Rattle.step_defs.specs.Steps.{plain_round};
-ghost use Rattle.report_lines.specs.Windows.{HasEntries};
+ghost use Rattle.walk_defs.specs.step_defs.Steps.{plain_round};
+ghost use Rattle.report.specs.report_lines.Windows.{HasEntries};
 
 use cause_defs::ReportFault;
-use report_lines::{append_window_line, write_line};
+use report::report_lines::{append_window_line, write_line};
 use sf_defs::Tag;
 use sf_fabric::Round;
 use shelf_io::Sink;
@@ -50,7 +50,7 @@ fn write_words<W: Sink>(
 }
 
 /// Writes the words of a round that is kept.
-#[tactic(auto, unfolding(step_defs::specs::Steps::plain_round))]
+#[tactic(auto, unfolding(walk_defs::specs::step_defs::Steps::plain_round))]
 fn write_round<W: Sink>(line: &mut Vec<u8>, round: &Round, out: &mut W) -> Result<(), ReportFault>
     requires { HasEntries round.now }
     ensures { Reports W.written W.flushed W.faults W.counts_failures_alone result out.old out.new (plain_round round.now) }

@@ -4,7 +4,7 @@ ghost use Rattle.std.specs.Prelude.{◌≡◌};
 ghost use Rattle.std.specs.List.{AllByRecursion};
 ghost use Rattle.sf_defs.specs.Rounds.{IsLegal};
 ghost use Rattle.cause_defs.specs.Reports.{Reports};
-ghost use Rattle.step_defs.specs.Steps.{step_head, plain_step};
+ghost use Rattle.walk_defs.specs.step_defs.Steps.{step_head, plain_step};
 ghost use Rattle.step_report.specs.Conditions.{CanPrint};
 ghost use Rattle.step_report.specs.Pages.{FitsPages, details_of};
 
@@ -17,7 +17,7 @@ use cause_defs::ReportFault;
 use dist_number::{Bases, Numbers};
 use dist_state::Dist;
 use input_defs::{Show, Step};
-use report_lines::{append_step_line, write_line};
+use report::report_lines::{append_step_line, write_line};
 use sf_fabric::Round;
 use sf_graph::Forest;
 use shelf_io::Sink;

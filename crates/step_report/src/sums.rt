@@ -5,8 +5,8 @@
 ghost use Rattle.std.specs.Prelude.{◌≡◌, ◌+◌, ◌-◌, ◌<◌, ◌≤◌, ◌+ℤ◌, ◌++◌, true, pos, length, take, drop, map, fold, count_by, int_lt, IfOk, OnOk};
 ghost use Rattle.cause_defs.specs.Reports.{Reports};
 ghost use Rattle.mesh_defs.specs.declared.ConeEntry.{ConeEntry as Entry};
-ghost use Rattle.step_defs.specs.Words.{signed_of};
-ghost use Rattle.step_defs.specs.Steps.{ranks_of, words_in, coordinates_at, plain_sums};
+ghost use Rattle.walk_defs.specs.step_defs.Words.{signed_of};
+ghost use Rattle.walk_defs.specs.step_defs.Steps.{ranks_of, words_in, coordinates_at, plain_sums};
 ghost use Rattle.step_report.specs.Conditions.{local_at};
 ghost use Rattle.step_report.specs.Counts.{is_of};
 ghost use Rattle.step_report.specs.Sums.{AddsPoint, AreSums, back_of};
@@ -16,7 +16,7 @@ use dist_state::{Dist, RankMesh};
 use mesh_defs::ConeEntry;
 use plex_base::NoMemory;
 use poly_tables::dim;
-use report_lines::{Sums, append_sum_line, signed_of, write_line};
+use report::report_lines::{Sums, append_sum_line, signed_of, write_line};
 use shelf_io::Sink;
 
 fn plus(sum: u64, more: u64) -> Result<u64, NoMemory>

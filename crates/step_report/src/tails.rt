@@ -6,9 +6,9 @@ ghost use Rattle.mesh_defs.specs.declared.ConeEntry.{ConeEntry as Entry};
 ghost use Rattle.mesh_defs.specs.Tables.{dim_of};
 ghost use Rattle.plex_base.specs.Dim.{dim_number};
 ghost use Rattle.plex_defs.specs.Closure.{cone_entry};
-ghost use Rattle.text_defs.specs.Text.{entry_text};
-ghost use Rattle.step_defs.specs.Points.{poly_of, covers_of, renamed, name_of, labels_of, fields_of, tail_of};
-ghost use Rattle.step_defs.specs.Steps.{numbers_on};
+ghost use Rattle.input_defs.specs.text_defs.Text.{entry_text};
+ghost use Rattle.walk_defs.specs.step_defs.Points.{poly_of, covers_of, renamed, name_of, labels_of, fields_of, tail_of};
+ghost use Rattle.walk_defs.specs.step_defs.Steps.{numbers_on};
 ghost use Rattle.step_report.specs.Tails.{coordinates_of, rest_of};
 
 use dist_number::Numbers;
@@ -16,7 +16,9 @@ use dist_state::RankMesh;
 use mesh_defs::{ConeEntry, Poly};
 use plex_base::{Dim, NoMemory};
 use poly_tables::dim;
-use report_lines::{append_at, append_cone, append_entry, append_label, append_tag, append_words};
+use report::report_lines::{
+    append_at, append_cone, append_entry, append_label, append_tag, append_words,
+};
 
 /// The tag of a point.
 pub(crate) fn append_name(line: &mut Vec<u8>, local: &RankMesh, p: u32) -> Result<(), NoMemory>
@@ -54,7 +56,7 @@ fn dimension(poly: Poly) -> Dim
 }
 
 /// The label values of a point.
-#[tactic(auto, unfolding(step_defs::specs::Points::labels_of))]
+#[tactic(auto, unfolding(walk_defs::specs::step_defs::Points::labels_of))]
 fn append_labels(line: &mut Vec<u8>, local: &RankMesh, p: u32) -> Result<(), NoMemory>
     requires { p < length local.now.diagram.points }
     ensures { OnOk result (line.new.items ≡ line.old.items ++ labels_of local.now p) }

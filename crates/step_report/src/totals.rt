@@ -2,13 +2,13 @@
 
 ghost use Rattle.std.specs.Prelude.{◌≡◌, ◌+◌, ◌<◌, ◌==◌, ◌++◌, if◌then◌else◌, length, get_or, OnOk};
 ghost use Rattle.plex_base.specs.Dim.{dim_number};
-ghost use Rattle.step_defs.specs.Steps.{ranks_of, plain_total};
+ghost use Rattle.walk_defs.specs.step_defs.Steps.{ranks_of, plain_total};
 ghost use Rattle.step_report.specs.Counts.{AreTotals};
 
 use crate::counts::{Counts, count_owned};
 use dist_state::Dist;
 use plex_base::{Dim, NoMemory};
-use report_lines::{Totals, append_total_line};
+use report::report_lines::{Totals, append_total_line};
 
 /// The faces among counted points: those of a solid mesh.
 fn faces(dim: Dim, counts: &Counts) -> u32

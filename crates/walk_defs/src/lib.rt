@@ -4,3 +4,5 @@
 //! The definitions stand in `specs/`, over plain lists and numbers, after the transitive closures of
 //! DMPlex. There is no code.
 #![tactic(auto)]
+
+pub mod step_defs;

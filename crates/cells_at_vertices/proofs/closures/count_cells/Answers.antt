@@ -1,7 +1,7 @@
 use Rattle.std.proofs.Common.{◌≡◌, ℕ, pos, ap, sym, subst, ◌∙◌, arith}
 use Rattle.plex_chart.specs.Chart.{point_at}
 use Rattle.poly_orient.proofs.Grouping.{orientation-0}
-use Rattle.cell_laws.specs.Cells.{Once}
+use Rattle.rank_laws.specs.cell_laws.Cells.{Once}
 use Rattle.cells_at_vertices.specs.Own.{AreCounts}
 use Rattle.cells_at_vertices.proofs.Cells.{is_of, closure-once, once-few, counts-low, counts-more, counts-all, cells-range}
 use Rattle.cells_at_vertices.proofs.closures.count_cells.Goals as goal

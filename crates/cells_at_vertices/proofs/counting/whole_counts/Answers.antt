@@ -3,7 +3,7 @@ use Rattle.std.proofs.lemmas.Result.{IfOk-weaker}
 use Rattle.plain_lists.specs.Vectors.{lists_of}
 use Rattle.mesh_defs.specs.Mesh.{Mesh}
 use Rattle.sf_ops.specs.Asked.{AreRootValues, CoverLeaves}
-use Rattle.sum_defs.specs.Sums.{AreSums, SumsFit}
+use Rattle.sf_defs.specs.sums.Sums.{AreSums, SumsFit}
 use Rattle.cells_at_vertices.specs.declared.counts.VertexCount.{VertexCount}
 use Rattle.cells_at_vertices.specs.Counts.{vertex_counts}
 use Rattle.cells_at_vertices.specs.Own.{IsOf}

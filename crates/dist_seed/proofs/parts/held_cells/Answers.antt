@@ -1,4 +1,4 @@
-use Rattle.rank_cells.specs.Own.{held_of}
+use Rattle.dist_seed.specs.rank_cells.Own.{held_of}
 use Rattle.dist_seed.proofs.Listing.{below-pushed}
 use Rattle.dist_seed.proofs.parts.held_cells.Goals as goal
 

@@ -4,10 +4,10 @@ use Rattle.mesh_defs.specs.Mesh.{Section}
 use Rattle.plex_defs.specs.Fields.{row_values}
 use Rattle.rank_defs.specs.Ranks.{assigned}
 use Rattle.rank_defs.specs.Spread.{ScatterPart, coordinates_of}
-use Rattle.scatter_state.specs.Parts.{cells_of, marks_of, given_rows}
-use Rattle.rank_cells.proofs.Placed.{cells-placed}
-use Rattle.section_rows.specs.Last.{numbers_on}
-use Rattle.seed_laws.specs.Given.{marks_on_cells}
+use Rattle.dist_state.specs.scatter_state.Parts.{cells_of, marks_of, given_rows}
+use Rattle.dist_seed.proofs.rank_cells.Placed.{cells-placed}
+use Rattle.dist_seed.specs.section_rows.Last.{numbers_on}
+use Rattle.headline_laws.specs.seed_laws.Given.{marks_on_cells}
 use Rattle.dist_seed.proofs.Assembled.{are-cells, few-cells, own-vertices, low-vertices, cells-held, vertices-held, owners-there, length-owners, numbers-of_cells, assembled}
 use Rattle.dist_seed.proofs.parts.part_of.Goals as goal
 

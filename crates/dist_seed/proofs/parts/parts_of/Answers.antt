@@ -1,7 +1,7 @@
 use Rattle.std.proofs.Common.{◌≡◌, ◌+◌, [], ◌∷◌, map, length, drop, ap, sym, ◌∙◌, arith}
 use Rattle.std.proofs.lemmas.List.{length_push, nil_from_length}
 use Rattle.plain_lists.specs.Lists.{below}
-use Rattle.rank_cells.specs.Own.{held_of}
+use Rattle.dist_seed.specs.rank_cells.Own.{held_of}
 use Rattle.dist_seed.specs.Parts.{part_given}
 use Rattle.dist_seed.proofs.Listing.{below-pushed, rest-first, rest-none, image-there}
 use Rattle.dist_seed.proofs.parts.parts_of.Goals as goal

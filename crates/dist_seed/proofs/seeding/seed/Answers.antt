@@ -4,7 +4,7 @@ use Rattle.input_defs.specs.States.{first_ranks}
 use Rattle.rank_defs.specs.Ranks.{IsRightAssignment}
 use Rattle.rank_defs.specs.Spread.{PlainScatter, IsScatter}
 use Rattle.plan_reader.specs.Drafts.{counts_of}
-use Rattle.rank_cells.specs.Own.{held_of}
+use Rattle.dist_seed.specs.rank_cells.Own.{held_of}
 use Rattle.dist_seed.specs.Parts.{part_given}
 use Rattle.dist_seed.proofs.Seeded.{length-held, whole-scatter, seeded}
 use Rattle.dist_seed.proofs.seeding.seed.Goals as goal

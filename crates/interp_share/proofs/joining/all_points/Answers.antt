@@ -2,11 +2,11 @@ use Rattle.std.proofs.Common.{◌≡◌, ℕ, ◌+◌, List, [], map, length, ge
 use Rattle.std.specs.Prelude.{IfSome}
 use Rattle.std.proofs.lemmas.List.{length-map, length-set, length_push, nil_from_length, get_or-map}
 use Rattle.plain_lists.specs.Lists.{below}
-use Rattle.meeting_laws.proofs.Loops.{pushed_below}
+use Rattle.rank_chart_laws.proofs.meeting_laws.Loops.{pushed_below}
 use Rattle.rank_defs.specs.Spread.{ScatterPart}
-use Rattle.scatter_state.specs.Whole.{part_at}
-use Rattle.rank_points.specs.Seen.{Seen, seen_of, part_sets}
-use Rattle.rank_points.proofs.Own.{parts-count}
+use Rattle.dist_state.specs.scatter_state.Whole.{part_at}
+use Rattle.interp_share.specs.rank_points.Seen.{Seen, seen_of, part_sets}
+use Rattle.interp_share.proofs.rank_points.Own.{parts-count}
 use Rattle.interp_share.specs.Known.{known}
 use Rattle.interp_share.proofs.Stepping.{next-low, next-is, none-left, still-there, left-behind, words-many, words-there}
 use Rattle.interp_share.proofs.joining.all_points.Goals as goal

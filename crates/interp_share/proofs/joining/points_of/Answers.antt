@@ -5,9 +5,9 @@ use Rattle.plex_defs.specs.Fields.{fields}
 use Rattle.local_points.specs.Points.{local_points}
 use Rattle.rank_defs.specs.Ranks.{assigned}
 use Rattle.rank_defs.specs.Spread.{ScatterPart, own_chart}
-use Rattle.scatter_state.specs.Whole.{part_at}
-use Rattle.part_labels.specs.Parts.{IsPartOf, IsSomePart}
-use Rattle.rank_points.proofs.Pushing.{local-seen}
+use Rattle.dist_state.specs.scatter_state.Whole.{part_at}
+use Rattle.interp_share.specs.part_labels.Parts.{IsPartOf, IsSomePart}
+use Rattle.interp_share.proofs.rank_points.Pushing.{local-seen}
 use Rattle.interp_share.specs.Known.{known}
 use Rattle.interp_share.proofs.Ranked.{is-part, some-part, local-is, sets-are, sets-count, sets-few, four-labels, words-all}
 use Rattle.interp_share.proofs.joining.points_of.Goals as goal

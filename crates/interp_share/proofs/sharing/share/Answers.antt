@@ -1,6 +1,6 @@
 use Rattle.std.proofs.Common.{sym, ◌∙◌, subst, arith}
 use Rattle.rank_defs.specs.Spread.{PlainShared, IsShared}
-use Rattle.rank_points.proofs.Own.{parts-fit}
+use Rattle.interp_share.proofs.rank_points.Own.{parts-fit}
 use Rattle.interp_share.proofs.Whole.{is-whole, is-shared, locals-seen}
 use Rattle.interp_share.proofs.sharing.share.Goals as goal
 

@@ -2,7 +2,7 @@ use Rattle.std.proofs.Common.{◌≡◌, ◌∙◌, ap₂, codes, rules, [], tru
 use Rattle.std.proofs.lemmas.Result.{IfOk-weaker}
 use Rattle.clap.specs.Simple.{app_of, new_app, with_rule}
 use Rattle.clap.specs.Walk.{rule_of}
-use Rattle.command_laws.specs.Command.{mesh_rule, option_rule, summary_rule}
+use Rattle.input_laws.specs.command_laws.Command.{mesh_rule, option_rule, summary_rule}
 use Rattle.job_words.proofs.command.command.Goals as goal
 
 pub returns : goal.returns

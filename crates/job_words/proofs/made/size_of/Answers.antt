@@ -1,7 +1,7 @@
 use Rattle.std.proofs.Common.{◌≡◌, ◌∙◌, sym, refl}
 use Rattle.std.specs.Prelude.{Some, None}
 use Rattle.std.specs.Result.{result_ok}
-use Rattle.scan_defs.specs.Numbers.{uint_of}
+use Rattle.input_defs.specs.scan_defs.Numbers.{uint_of}
 use Rattle.job_words.proofs.WordLemmas.{some_bytes, ok_some, ok_none, read_some, read_great, read_none}
 use Rattle.job_words.proofs.made.size_of.Goals as goal
 

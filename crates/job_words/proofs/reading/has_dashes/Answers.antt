@@ -2,7 +2,7 @@ use Rattle.std.proofs.Common.{◌∙◌, rules, string_bytes}
 use Rattle.std.proofs.lemmas.Iterator.{YieldsList-from_slice}
 use Rattle.std.proofs.lemmas.Iterator.Search.{any_from_yields_List}
 use Rattle.clap.proofs.WalkLemmas.{list_any-map}
-use Rattle.command_laws.specs.Command.{is_dashes}
+use Rattle.input_laws.specs.command_laws.Command.{is_dashes}
 use Rattle.job_words.proofs.reading.has_dashes.Goals as goal
 
 pub returns : goal.returns

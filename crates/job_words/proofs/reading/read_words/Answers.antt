@@ -1,7 +1,7 @@
 use Rattle.std.proofs.Common.{◌∙◌, map, string_bytes, subst, sym}
 use Rattle.clap.specs.Matches.{found_of}
 use Rattle.clap.specs.Walk.{rows_of}
-use Rattle.command_laws.proofs.SideBySide.{dashes_refused}
+use Rattle.input_laws.proofs.command_laws.SideBySide.{dashes_refused}
 use Rattle.job_words.specs.Asking.{IsMatched}
 use Rattle.job_words.proofs.Matched.{no_request, request_is}
 use Rattle.job_words.proofs.reading.read_words.Goals as goal

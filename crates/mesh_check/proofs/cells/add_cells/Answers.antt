@@ -2,7 +2,7 @@ use Rattle.std.proofs.Common.{◌≡◌, [], ◌∷◌, ◌++◌, map, get_or, s
 use Rattle.mesh_defs.specs.Mesh.{Mesh, Cell}
 use Rattle.input_defs.specs.RightContent.{IsRight}
 use Rattle.input_defs.specs.Meshes.{vertex_nodes, vertex_of, cell_of}
-use Rattle.place_laws.specs.Places.{element_at}
+use Rattle.input_laws.specs.place_laws.Places.{element_at}
 use Rattle.mesh_check.specs.Partly.{coordinates, partly}
 use Rattle.mesh_check.proofs.Twists.{element-of}
 use Rattle.mesh_check.proofs.Assembled.{next-cell, all-cells}

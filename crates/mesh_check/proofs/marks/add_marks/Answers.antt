@@ -9,8 +9,8 @@ use Rattle.plex_base.specs.Dim.{dim_number}
 use Rattle.input_defs.specs.Content.{Element}
 use Rattle.input_defs.specs.RightContent.{IsRight}
 use Rattle.input_defs.specs.Meshes.{vertex_nodes, vertex_of, cells_of, mark_of}
-use Rattle.place_laws.specs.Places.{element_at}
-use Rattle.element_places.proofs.Steps.{take-whole}
+use Rattle.input_laws.specs.place_laws.Places.{element_at}
+use Rattle.mesh_check.proofs.element_places.Steps.{take-whole}
 use Rattle.mesh_check.specs.Partly.{coordinates, partly}
 use Rattle.mesh_check.proofs.Twists.{element-of}
 use Rattle.mesh_check.proofs.Assembled.{marks_up_to, marked-is, next-mark, more-marks, all-marks}

@@ -1,7 +1,7 @@
 use Rattle.std.proofs.Common.{sym, ◌∙◌, ◌==◌}
 use Rattle.plain_lists.proofs.Finding.{position-none}
 use Rattle.input_defs.specs.Content.{Node}
-use Rattle.place_laws.proofs.Firsts.{found-nowhere}
+use Rattle.input_laws.proofs.place_laws.Firsts.{found-nowhere}
 use Rattle.mesh_check.proofs.positions.position.Goals as goal
 
 pub returns-in-None : goal.returns-in-None

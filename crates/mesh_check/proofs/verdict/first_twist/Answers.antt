@@ -5,7 +5,7 @@ use Rattle.plain_lists.proofs.Finding.{find-none}
 use Rattle.input_defs.specs.Content.{Content, Element}
 use Rattle.input_defs.specs.declared.MeshFault.TheVariants.{CellTwist}
 use Rattle.input_defs.specs.Meshes.{is_twisted, first_at, twist}
-use Rattle.element_places.proofs.Steps.{first-at, take-whole}
+use Rattle.mesh_check.proofs.element_places.Steps.{first-at, take-whole}
 use Rattle.mesh_check.proofs.Twists.{first-is, find-at, none-more, element-of}
 use Rattle.mesh_check.proofs.verdict.first_twist.Goals as goal
 

@@ -5,8 +5,8 @@ use Rattle.mesh_defs.specs.Orientation.{relative}
 use Rattle.input_defs.specs.Content.{Element}
 use Rattle.input_defs.specs.RightContent.{IsRight}
 use Rattle.input_defs.specs.Meshes.{poly, dim, greatest_dim}
-use Rattle.place_laws.specs.Places.{element_at}
-use Rattle.element_places.proofs.Steps.{first-at}
+use Rattle.input_laws.specs.place_laws.Places.{element_at}
+use Rattle.mesh_check.proofs.element_places.Steps.{first-at}
 use Rattle.mesh_check.proofs.Twists.{right-at, nodes-count, different, first-count, first-is, element-of, untwisted, twisted}
 use Rattle.mesh_check.proofs.verdict.is_twisted.Goals as goal
 

@@ -2,7 +2,7 @@ use Rattle.std.proofs.Common.{◌≡◌, ◌*◌, ◌/◌, ◌<◌, [], ◌∷�
 use Rattle.std.proofs.Math.Seq.{take-length}
 use Rattle.mesh_defs.specs.Mesh.{Mesh}
 use Rattle.input_defs.specs.Generated.{layers, cuts, made}
-use Rattle.made_laws.proofs.Made.{cells-count, few-cells}
+use Rattle.input_laws.proofs.made_laws.Made.{cells-count, few-cells}
 use Rattle.mesh_make.specs.Spots.{partly, grid_point}
 use Rattle.mesh_make.proofs.Listed.{piece-below, next-cell}
 use Rattle.mesh_make.proofs.cells.add_cells.Goals as goal

@@ -2,7 +2,7 @@ use Rattle.std.proofs.Common.{◌≡◌, ◌+◌, ◌*◌, ◌<◌, [], ◌∷�
 use Rattle.std.proofs.Math.Seq.{take-length}
 use Rattle.mesh_defs.specs.Mesh.{Mesh}
 use Rattle.input_defs.specs.Generated.{layers, made}
-use Rattle.made_laws.proofs.Made.{points-count}
+use Rattle.input_laws.proofs.made_laws.Made.{points-count}
 use Rattle.mesh_make.specs.Spots.{partly, grid_point}
 use Rattle.mesh_make.proofs.Listed.{points-step}
 use Rattle.mesh_make.proofs.cells.add_points.Goals as goal

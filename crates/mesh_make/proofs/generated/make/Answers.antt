@@ -2,7 +2,7 @@ use Rattle.std.proofs.Common.{◌≤◌, [], length, sym, ap, ◌∙◌, subst}
 use Rattle.mesh_defs.specs.Mesh.{Mesh}
 use Rattle.mesh_defs.specs.RightMesh.{UsesVertices}
 use Rattle.input_defs.specs.Generated.{made}
-use Rattle.made_laws.proofs.Made.{right-made}
+use Rattle.input_laws.proofs.made_laws.Made.{right-made}
 use Rattle.mesh_make.proofs.generated.make.Goals as goal
 
 pub add_points-requires-clause-start : goal.add_points-requires-clause-start

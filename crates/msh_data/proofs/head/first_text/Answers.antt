@@ -1,7 +1,7 @@
 use Rattle.std.proofs.Common.{◌≡◌, ◌-◌, [], suc, arith}
 use Rattle.std.proofs.lemmas.Result.{err_from_is_err_and}
 use Rattle.input_defs.specs.Bodies.{quoted}
-use Rattle.reading_laws.proofs.Going.{others-fault}
+use Rattle.input_laws.proofs.reading_laws.Going.{others-fault}
 use Rattle.msh_data.proofs.head.first_text.Goals as goal
 
 pub returns-in_err-pass_texts : goal.returns-in_err-pass_texts

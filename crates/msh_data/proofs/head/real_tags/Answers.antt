@@ -1,6 +1,6 @@
 use Rattle.std.proofs.lemmas.Result.{err_from_is_err_and}
-use Rattle.scan_defs.specs.Numbers.{uint_of}
-use Rattle.reading_laws.proofs.Going.{goes-then, goes-fault, goes-number}
+use Rattle.input_defs.specs.scan_defs.Numbers.{uint_of}
+use Rattle.input_laws.proofs.reading_laws.Going.{goes-then, goes-fault, goes-number}
 use Rattle.msh_data.specs.Pieces.{reals}
 use Rattle.msh_data.proofs.head.real_tags.Goals as goal
 

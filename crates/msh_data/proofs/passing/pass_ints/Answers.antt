@@ -1,9 +1,9 @@
 use Rattle.std.proofs.Common.{◌≡◌, ◌+◌, ◌-◌, suc, arith}
 use Rattle.std.proofs.lemmas.Result.{err_from_is_err_and}
-use Rattle.scan_defs.specs.Numbers.{int_of}
+use Rattle.input_defs.specs.scan_defs.Numbers.{int_of}
 use Rattle.input_defs.specs.Bodies.{many, int}
-use Rattle.reading_laws.specs.Going.{passed}
-use Rattle.reading_laws.proofs.Going.{resumes-start, pass-step, pass-fault, pass-done, goes-number}
+use Rattle.input_laws.specs.reading_laws.Going.{passed}
+use Rattle.input_laws.proofs.reading_laws.Going.{resumes-start, pass-step, pass-fault, pass-done, goes-number}
 use Rattle.msh_data.proofs.passing.pass_ints.Goals as goal
 
 pub loop-init : goal.loop-init

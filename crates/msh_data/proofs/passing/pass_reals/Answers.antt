@@ -2,8 +2,8 @@ use Rattle.std.proofs.Common.{◌≡◌, ◌+◌, ◌-◌, suc, arith}
 use Rattle.std.proofs.lemmas.Result.{err_from_is_err_and}
 use Rattle.input_defs.specs.Bodies.{many}
 use Rattle.input_defs.specs.DataSections.{real}
-use Rattle.reading_laws.specs.Going.{passed}
-use Rattle.reading_laws.proofs.Going.{resumes-start, drop-step, drop-fault, pass-done}
+use Rattle.input_laws.specs.reading_laws.Going.{passed}
+use Rattle.input_laws.proofs.reading_laws.Going.{resumes-start, drop-step, drop-fault, pass-done}
 use Rattle.msh_data.proofs.passing.pass_reals.Goals as goal
 
 pub loop-init : goal.loop-init

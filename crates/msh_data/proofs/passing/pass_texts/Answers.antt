@@ -1,8 +1,8 @@
 use Rattle.std.proofs.Common.{◌≡◌, ◌+◌, ◌-◌, suc, arith}
 use Rattle.std.proofs.lemmas.Result.{err_from_is_err_and}
 use Rattle.input_defs.specs.Bodies.{many, quoted}
-use Rattle.reading_laws.specs.Going.{passed}
-use Rattle.reading_laws.proofs.Going.{resumes-start, pass-step, pass-fault, pass-done}
+use Rattle.input_laws.specs.reading_laws.Going.{passed}
+use Rattle.input_laws.proofs.reading_laws.Going.{resumes-start, pass-step, pass-fault, pass-done}
 use Rattle.msh_data.proofs.passing.pass_texts.Goals as goal
 
 pub loop-init : goal.loop-init

@@ -1,6 +1,6 @@
 use Rattle.std.proofs.Common.{◌-◌}
 use Rattle.input_defs.specs.Bodies.{many, quoted}
-use Rattle.reading_laws.specs.Going.{passed, Resumes}
+use Rattle.input_laws.specs.reading_laws.Going.{passed, Resumes}
 use Rattle.msh_data.proofs.passing.pass_texts.Given as goal
 
 abbrev pub invariant-loop : goal.invariant-loop

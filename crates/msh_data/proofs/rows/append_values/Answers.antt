@@ -3,9 +3,9 @@ use Rattle.std.proofs.lemmas.Result.{err_from_is_err_and}
 use Rattle.std.proofs.lemmas.Int.{to_z-of_z}
 use Rattle.std.specs.Int.{w64}
 use mir.Val.{SFits}
-use Rattle.scan_defs.specs.Numbers.{fixed_of}
+use Rattle.input_defs.specs.scan_defs.Numbers.{fixed_of}
 use Rattle.input_defs.specs.Bodies.{fixed}
-use Rattle.reading_laws.proofs.Going.{goes-number, onto-step, onto-fault}
+use Rattle.input_laws.proofs.reading_laws.Going.{goes-number, onto-step, onto-fault}
 use Rattle.msh_data.proofs.rows.append_values.Goals as goal
 
 pub loop-preserved : goal.loop-preserved

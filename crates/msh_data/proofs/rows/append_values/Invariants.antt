@@ -1,6 +1,6 @@
 use Rattle.std.proofs.Common.{◌-◌}
 use Rattle.input_defs.specs.Bodies.{fixed}
-use Rattle.reading_laws.specs.Going.{onto, Resumes}
+use Rattle.input_laws.specs.reading_laws.Going.{onto, Resumes}
 use Rattle.msh_data.proofs.rows.append_values.Given as goal
 
 abbrev pub invariant-loop : goal.invariant-loop

@@ -1,6 +1,6 @@
 use Rattle.std.proofs.Common.{◌≡◌, ◌+◌, ◌-◌, suc, arith}
 use Rattle.std.proofs.lemmas.Result.{err_from_is_err_and}
-use Rattle.reading_laws.proofs.Going.{repeat-step, repeat-fault, repeat-done}
+use Rattle.input_laws.proofs.reading_laws.Going.{repeat-step, repeat-fault, repeat-done}
 use Rattle.msh_data.specs.Pieces.{flat_of, row_onto}
 use Rattle.msh_data.proofs.FlatRows.{rows-read, rows-fit, rows-fault}
 use Rattle.msh_data.proofs.rows.read_rows.Goals as goal

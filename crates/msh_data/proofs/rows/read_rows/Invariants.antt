@@ -1,5 +1,5 @@
 use Rattle.std.proofs.Common.{◌≡◌, ◌-◌, []}
-use Rattle.reading_laws.specs.Going.{repeated, Resumes}
+use Rattle.input_laws.specs.reading_laws.Going.{repeated, Resumes}
 use Rattle.msh_data.specs.Pieces.{flat_of, row_onto}
 use Rattle.msh_data.proofs.rows.read_rows.Given as goal
 

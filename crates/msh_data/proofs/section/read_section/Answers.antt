@@ -1,5 +1,5 @@
 use Rattle.std.proofs.lemmas.Result.{err_from_is_err_and}
-use Rattle.reading_laws.proofs.Going.{goes-then, goes-fault, goes-give}
+use Rattle.input_laws.proofs.reading_laws.Going.{goes-then, goes-fault, goes-give}
 use Rattle.msh_data.proofs.WholeSections.{section-read, section-fault}
 use Rattle.msh_data.proofs.section.read_section.Goals as goal
 

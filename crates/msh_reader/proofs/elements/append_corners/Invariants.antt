@@ -1,6 +1,6 @@
 use Rattle.std.proofs.Common.{◌≡◌, ◌≤◌, ◌-◌, [], drop, take, length}
 use Rattle.input_defs.specs.Sections.{corner}
-use Rattle.reading_laws.specs.Going.{onto}
+use Rattle.input_laws.specs.reading_laws.Going.{onto}
 use Rattle.msh_reader.specs.Going.{Resumes}
 use Rattle.msh_reader.specs.NumberSets.{numbers_of}
 use Rattle.msh_reader.proofs.elements.append_corners.Given as goal

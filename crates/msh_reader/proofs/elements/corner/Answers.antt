@@ -1,5 +1,5 @@
 use Rattle.std.proofs.Common.{◌≡◌, sym, refl, ◌∙◌, true, false}
-use Rattle.scan_defs.specs.Numbers.{uint_of}
+use Rattle.input_defs.specs.scan_defs.Numbers.{uint_of}
 use Rattle.input_defs.specs.Sections.{has_number}
 use Rattle.msh_reader.specs.NumberSets.{numbers_of}
 use Rattle.msh_reader.proofs.Going.{goes-tested}

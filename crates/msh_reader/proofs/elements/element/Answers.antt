@@ -3,9 +3,9 @@ use Rattle.std.proofs.lemmas.Result.{err_from_is_err_and}
 use Rattle.std.proofs.lemmas.Int.{to_z-of_z}
 use Rattle.std.specs.Int.{w32}
 use mir.Val.{SFits}
-use Rattle.scan_defs.specs.Numbers.{uint_of}
+use Rattle.input_defs.specs.scan_defs.Numbers.{uint_of}
 use Rattle.input_defs.specs.Sections.{corner}
-use Rattle.reading_laws.specs.Going.{onto}
+use Rattle.input_laws.specs.reading_laws.Going.{onto}
 use Rattle.msh_reader.specs.NumberSets.{numbers_of}
 use Rattle.msh_reader.proofs.ElementRows.{element-read, corners-count, after-count}
 use Rattle.msh_reader.proofs.Going.{goes-then, goes-fault, goes-give, goes-same, goes-number, goes-no_number}

@@ -1,7 +1,7 @@
 use Rattle.std.proofs.Common.{◌≡◌, ◌+◌, ◌-◌, suc, arith}
 use Rattle.std.proofs.lemmas.Result.{err_from_is_err_and}
 use Rattle.input_defs.specs.Sections.{element, elements}
-use Rattle.reading_laws.proofs.Readers.{many-nothing}
+use Rattle.input_laws.proofs.reading_laws.Readers.{many-nothing}
 use Rattle.msh_reader.specs.NumberSets.{numbers_of}
 use Rattle.msh_reader.proofs.ElementRows.{laid-more, views-more, views-none, laid-none}
 use Rattle.msh_reader.proofs.Going.{goes-then, goes-fault, goes-same, resumes-start, onto-step, onto-fault, onto-done}

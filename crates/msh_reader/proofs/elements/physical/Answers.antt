@@ -1,5 +1,5 @@
 use Rattle.std.proofs.lemmas.Result.{err_from_is_err_and}
-use Rattle.scan_defs.specs.Numbers.{uint_of}
+use Rattle.input_defs.specs.scan_defs.Numbers.{uint_of}
 use Rattle.msh_reader.specs.Views.{physical}
 use Rattle.msh_reader.proofs.Going.{goes-then, goes-fault, goes-number, goes-no_number}
 use Rattle.msh_reader.proofs.elements.physical.Goals as goal

@@ -1,7 +1,7 @@
 use Rattle.std.proofs.Common.{sym, ap, ◌∙◌}
-use Rattle.scan_defs.specs.Items.{Spot}
-use Rattle.scan_defs.specs.Lines.{line_number}
-use Rattle.reading_laws.proofs.Blocks.{blocks-some, blocks-none, last-same, last-is}
+use Rattle.input_defs.specs.scan_defs.Items.{Spot}
+use Rattle.input_defs.specs.scan_defs.Lines.{line_number}
+use Rattle.input_laws.proofs.reading_laws.Blocks.{blocks-some, blocks-none, last-same, last-is}
 use Rattle.msh_reader.proofs.headers.next_header.Goals as goal
 
 pub returns-in-Some-clause-block : goal.returns-in-Some-clause-block

@@ -1,7 +1,7 @@
 use Rattle.std.proofs.Common.{◌≡◌, ◌≤◌, length}
 use Rattle.input_defs.specs.Files.{Parts, Skipping, said}
-use Rattle.reading_laws.specs.Lexemes.{beyond}
-use Rattle.reading_laws.specs.Blocks.{blocks, last_line}
+use Rattle.input_laws.specs.reading_laws.Lexemes.{beyond}
+use Rattle.input_laws.specs.reading_laws.Blocks.{blocks, last_line}
 use Rattle.msh_reader.proofs.headers.skip_section.Given as goal
 
 abbrev pub invariant-loop-next : goal.invariant-loop-next

@@ -2,7 +2,7 @@ use Rattle.std.proofs.Common.{◌≡◌, ◌+◌, ◌-◌, suc, arith}
 use Rattle.std.proofs.lemmas.Result.{err_from_is_err_and}
 use Rattle.std.proofs.lemmas.List.{map-append}
 use Rattle.input_defs.specs.Sections.{name, names}
-use Rattle.reading_laws.proofs.Readers.{many-nothing}
+use Rattle.input_laws.proofs.reading_laws.Readers.{many-nothing}
 use Rattle.msh_reader.proofs.Going.{goes-then, goes-fault, goes-same, onto-step, onto-fault, onto-done}
 use Rattle.msh_reader.proofs.names.names.Goals as goal
 

@@ -1,6 +1,6 @@
 use Rattle.std.proofs.Common.{◌-◌, []}
 use Rattle.input_defs.specs.Sections.{name}
-use Rattle.reading_laws.specs.Going.{onto}
+use Rattle.input_laws.specs.reading_laws.Going.{onto}
 use Rattle.msh_reader.specs.Going.{Resumes}
 use Rattle.msh_reader.specs.Views.{name_views}
 use Rattle.msh_reader.proofs.names.names.Given as goal

@@ -3,7 +3,7 @@ use Rattle.std.proofs.lemmas.Int.{to_z-of_z}
 use Rattle.std.specs.Int.{w64}
 use mir.Val.{SFits}
 use Rattle.std.proofs.lemmas.Result.{err_from_is_err_and}
-use Rattle.scan_defs.specs.Numbers.{fixed_of}
+use Rattle.input_defs.specs.scan_defs.Numbers.{fixed_of}
 use Rattle.input_defs.specs.Sections.{node}
 use Rattle.msh_reader.proofs.Going.{goes-then, goes-fault, goes-give, goes-number, goes-no_number}
 use Rattle.msh_reader.proofs.nodes.node.Goals as goal

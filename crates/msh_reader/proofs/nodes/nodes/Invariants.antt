@@ -1,7 +1,7 @@
 use Rattle.std.proofs.Common.{◌≡◌, ℕ, ◌-◌, [], map}
 use Rattle.input_defs.specs.Content.{Node}
 use Rattle.input_defs.specs.Sections.{has_number, node}
-use Rattle.reading_laws.specs.Going.{onto}
+use Rattle.input_laws.specs.reading_laws.Going.{onto}
 use Rattle.msh_reader.specs.Going.{Resumes}
 use Rattle.msh_reader.specs.NumberSets.{numbers_of}
 use Rattle.msh_reader.specs.Views.{node_views, node_numbers}

@@ -3,7 +3,7 @@ use Rattle.std.proofs.lemmas.Int.{to_z-of_z}
 use Rattle.std.specs.Int.{w32}
 use mir.Val.{SFits}
 use Rattle.std.proofs.lemmas.Result.{err_from_is_err_and}
-use Rattle.scan_defs.specs.Numbers.{int_of}
+use Rattle.input_defs.specs.scan_defs.Numbers.{int_of}
 use Rattle.input_defs.specs.Bodies.{int}
 use Rattle.msh_reader.proofs.Going.{first-step, first-fault, others-fault, goes-number, goes-no_number}
 use Rattle.msh_reader.proofs.numbers.first_int.Goals as goal

@@ -1,8 +1,8 @@
 use Rattle.std.proofs.Common.{◌≡◌, ◌+◌, ◌-◌, suc, arith}
 use Rattle.std.proofs.lemmas.Result.{err_from_is_err_and}
-use Rattle.scan_defs.specs.Numbers.{int_of}
+use Rattle.input_defs.specs.scan_defs.Numbers.{int_of}
 use Rattle.input_defs.specs.Bodies.{many, int}
-use Rattle.reading_laws.specs.Going.{passed}
+use Rattle.input_laws.specs.reading_laws.Going.{passed}
 use Rattle.msh_reader.proofs.Going.{resumes-start, pass-step, pass-fault, pass-done, goes-number, goes-no_number}
 use Rattle.msh_reader.proofs.numbers.pass_ints.Goals as goal
 

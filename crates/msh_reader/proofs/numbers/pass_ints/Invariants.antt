@@ -1,6 +1,6 @@
 use Rattle.std.proofs.Common.{◌-◌}
 use Rattle.input_defs.specs.Bodies.{many, int}
-use Rattle.reading_laws.specs.Going.{passed}
+use Rattle.input_laws.specs.reading_laws.Going.{passed}
 use Rattle.msh_reader.specs.Going.{Resumes}
 use Rattle.msh_reader.proofs.numbers.pass_ints.Given as goal
 

@@ -2,8 +2,8 @@ use Rattle.std.proofs.Common.{◌≡◌, ◌≢◌, Some, None, Err, refl, sym, 
 use Rattle.std.specs.Prelude.{Option}
 use Rattle.input_defs.specs.declared.MshFault.{MshFault}
 use Rattle.input_defs.specs.Files.{cut_short, Opening, Closing, said}
-use Rattle.reading_laws.specs.Lexemes.{beyond}
-use Rattle.reading_laws.specs.Blocks.{blocks, last_line}
+use Rattle.input_laws.specs.reading_laws.Lexemes.{beyond}
+use Rattle.input_laws.specs.reading_laws.Blocks.{blocks, last_line}
 use Rattle.msh_reader.specs.declared.trouble.Trouble.TheVariants.{Fault, Ended}
 use Rattle.msh_reader.specs.Going.{fault_where, no_memory}
 use Rattle.msh_reader.specs.Headers.{known_of}

@@ -1,7 +1,7 @@
 use Rattle.std.proofs.Common.{◌<◌, map, sym, ap, subst, ◌∙◌}
 use Rattle.std.specs.List.{AllByRecursion}
 use Rattle.rank_defs.specs.Ranks.{least}
-use Rattle.iface_twist.specs.Least.{number_of, numbers, greatest}
+use Rattle.orient_iface.specs.iface_twist.Least.{number_of, numbers, greatest}
 use Rattle.orient_iface.proofs.Agreed.{own-keys, whole, if-ok}
 use Rattle.orient_iface.proofs.agreeing.agreed_twist.Goals as goal
 

@@ -1,5 +1,5 @@
 use Rattle.std.proofs.Common.{refl}
-use Rattle.line_defs.specs.Rows.{tokens_of}
+use Rattle.input_defs.specs.line_defs.Rows.{tokens_of}
 use Rattle.plan_reader.proofs.FormLemmas.{ranks_form}
 use Rattle.plan_reader.proofs.forms.read_form.Goals as goal
 

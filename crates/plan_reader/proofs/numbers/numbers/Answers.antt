@@ -1,5 +1,5 @@
 use Rattle.std.proofs.Common.{◌∙◌, ap, arith, length-append, [], ◌∷◌}
-use Rattle.line_defs.specs.Rows.{tokens_of}
+use Rattle.input_defs.specs.line_defs.Rows.{tokens_of}
 use Rattle.input_defs.specs.Plans.{plan_numbers}
 use Rattle.plan_reader.proofs.FormLemmas.{behind, numbers-more}
 use Rattle.plan_reader.proofs.numbers.numbers.Goals as goal

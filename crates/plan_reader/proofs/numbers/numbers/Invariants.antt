@@ -1,6 +1,6 @@
 use Rattle.std.proofs.Common.{◌≡◌, ◌++◌, ◌+◌, ◌≤◌, length}
 use Rattle.std.specs.Prelude.{option_map}
-use Rattle.line_defs.specs.Rows.{tokens_of}
+use Rattle.input_defs.specs.line_defs.Rows.{tokens_of}
 use Rattle.input_defs.specs.Plans.{plan_numbers}
 use Rattle.plan_reader.proofs.numbers.numbers.Given as goal
 

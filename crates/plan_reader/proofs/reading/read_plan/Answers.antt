@@ -1,7 +1,7 @@
 use Rattle.std.proofs.Common.{◌≡◌, [], length, ap, refl, arith}
 use Rattle.std.specs.Prelude.{option_map}
 use Rattle.std.proofs.lemmas.Result.{err_from_is_err_and}
-use Rattle.line_defs.specs.Rows.{lines_of}
+use Rattle.input_defs.specs.line_defs.Rows.{lines_of}
 use Rattle.input_defs.specs.Plans.{plan_of}
 use Rattle.plan_reader.specs.Reading.{lines_left}
 use Rattle.plan_reader.proofs.Lines.{length-lines_of}

@@ -1,6 +1,6 @@
 use Rattle.std.proofs.Common.{◌≡◌, ◌+◌, ◌≤◌, length}
 use Rattle.std.specs.Prelude.{option_map}
-use Rattle.line_defs.specs.Rows.{lines_of}
+use Rattle.input_defs.specs.line_defs.Rows.{lines_of}
 use Rattle.input_defs.specs.Plans.{plan_of, plan_from}
 use Rattle.plan_reader.specs.Reading.{lines_left, bytes_left}
 use Rattle.plan_reader.proofs.reading.read_plan.Given as goal

@@ -1,7 +1,7 @@
 use Rattle.std.proofs.Common.{rules, tests}
 use Rattle.std.proofs.lemmas.Iterator.{YieldsList-from_slice}
 use Rattle.std.proofs.lemmas.Iterator.Search.{position_from_yields_List}
-use Rattle.line_defs.specs.Rows.{is_blank}
+use Rattle.input_defs.specs.line_defs.Rows.{is_blank}
 use Rattle.plan_reader.proofs.Lines.{place_or_length}
 use Rattle.plan_reader.proofs.tokens.end_of_token.Goals as goal
 

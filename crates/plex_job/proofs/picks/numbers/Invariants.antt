@@ -1,6 +1,6 @@
 use Rattle.std.proofs.Common.{◌≡◌, ◌==◌, length}
 use Rattle.std.specs.Prelude.{option_map}
-use Rattle.line_defs.specs.Rows.{parts}
+use Rattle.input_defs.specs.line_defs.Rows.{parts}
 use Rattle.headline_defs.specs.Picks.{numerals}
 use Rattle.plex_job.specs.Pieces.{parts_left, before_others}
 use Rattle.plex_job.proofs.picks.numbers.Given as goal

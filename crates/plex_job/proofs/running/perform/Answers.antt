@@ -1,6 +1,6 @@
 use Rattle.std.proofs.Common.{Ok, refl, sym, subst}
 use Rattle.headline_defs.specs.Headline.{Headline}
-use Rattle.job_task.specs.Reading.{task_view}
+use Rattle.plex_job.specs.job_task.Reading.{task_view}
 use Rattle.plex_job.specs.Seen.{just, seen_alone}
 use Rattle.plex_job.proofs.Once.{built-once}
 use Rattle.plex_job.proofs.Endings.{ran-out-early, refuses-twist, tells}

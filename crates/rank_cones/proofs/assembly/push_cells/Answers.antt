@@ -9,9 +9,9 @@ use Rattle.mesh_defs.specs.Tables.{dim_of, facets_of}
 use Rattle.mesh_defs.specs.Mesh.{Cell}
 use Rattle.mesh_defs.specs.Diagram.{Diagram}
 use Rattle.plex_chart.specs.Chart.{IsInStratum}
-use Rattle.diagram_laws.specs.Strata.{face_sights}
+use Rattle.rank_laws.specs.diagram_laws.Strata.{face_sights}
 use Rattle.local_points.specs.Cells.{cell_at}
-use Rattle.rank_diagram_laws.specs.Parts.{Parts, IsCellPart, cell_part}
+use Rattle.rank_chart_laws.specs.rank_diagram_laws.Parts.{Parts, IsCellPart, cell_part}
 use Rattle.rank_cones.specs.Placed.{is_twisted, IsFirstTwist}
 use Rattle.rank_cones.specs.Assembly.{rank_parts, IsFor}
 use Rattle.rank_cones.specs.declared.stop.Stop.{Stop}

@@ -1,7 +1,7 @@
 use Rattle.std.proofs.Common.{◌≡◌, false, map, take}
 use Rattle.std.specs.List.{list_any}
-use Rattle.diagram_laws.specs.Strata.{face_sights}
-use Rattle.rank_diagram_laws.specs.Parts.{cell_part}
+use Rattle.rank_laws.specs.diagram_laws.Strata.{face_sights}
+use Rattle.rank_chart_laws.specs.rank_diagram_laws.Parts.{cell_part}
 use Rattle.rank_cones.specs.Placed.{is_twisted}
 use Rattle.rank_cones.specs.Assembly.{rank_parts}
 use Rattle.rank_cones.proofs.assembly.push_cells.Given as goal

@@ -10,7 +10,7 @@ use Rattle.mesh_defs.specs.Mesh.{Cell}
 use Rattle.mesh_defs.specs.Points.{Sight, vertex_sight}
 use Rattle.mesh_defs.specs.Diagram.{Diagram}
 use Rattle.plex_chart.specs.Chart.{IsInStratum}
-use Rattle.rank_diagram_laws.specs.Parts.{Parts, IsEdgePart, end_part, edge_part}
+use Rattle.rank_chart_laws.specs.rank_diagram_laws.Parts.{Parts, IsEdgePart, end_part, edge_part}
 use Rattle.rank_cones.specs.Placed.{sight_at}
 use Rattle.rank_cones.specs.Assembly.{rank_parts, IsFor}
 use Rattle.rank_cones.proofs.Strata.{in-edges, still-for, dim-two, edge-below}

@@ -1,5 +1,5 @@
 use Rattle.std.proofs.Common.{◌≡◌, ◌++◌, map, take}
-use Rattle.rank_diagram_laws.specs.Parts.{edge_part}
+use Rattle.rank_chart_laws.specs.rank_diagram_laws.Parts.{edge_part}
 use Rattle.rank_cones.specs.Assembly.{rank_parts}
 use Rattle.rank_cones.proofs.assembly.push_edges.Given as goal
 

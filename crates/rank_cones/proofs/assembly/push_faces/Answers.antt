@@ -9,8 +9,8 @@ use Rattle.mesh_defs.specs.Mesh.{Cell}
 use Rattle.mesh_defs.specs.Points.{Sight, vertex_sight}
 use Rattle.mesh_defs.specs.Diagram.{Diagram}
 use Rattle.plex_chart.specs.Chart.{IsInStratum}
-use Rattle.diagram_laws.specs.Strata.{cone_from}
-use Rattle.rank_diagram_laws.specs.Parts.{Parts, HasFacets, IsCellPart, IsFacePart, face_part}
+use Rattle.rank_laws.specs.diagram_laws.Strata.{cone_from}
+use Rattle.rank_chart_laws.specs.rank_diagram_laws.Parts.{Parts, HasFacets, IsCellPart, IsFacePart, face_part}
 use Rattle.rank_cones.specs.Placed.{sight_at}
 use Rattle.rank_cones.specs.Assembly.{rank_parts, IsFor}
 use Rattle.local_points.specs.Cells.{cell_at}

@@ -3,7 +3,7 @@ use Rattle.std.proofs.lemmas.List.{length-map}
 use Rattle.plain_lists.specs.Lists.{below}
 use Rattle.plain_lists.proofs.Below.{length-below}
 use Rattle.mesh_defs.specs.Diagram.{Diagram}
-use Rattle.diagram_laws.specs.Strata.{bare_cover}
+use Rattle.rank_laws.specs.diagram_laws.Strata.{bare_cover}
 use Rattle.rank_cones.proofs.Strata.{in-vertices}
 use Rattle.rank_cones.proofs.assembly.push_vertices.Goals as goal
 

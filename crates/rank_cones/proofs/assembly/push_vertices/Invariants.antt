@@ -1,6 +1,6 @@
 use Rattle.std.proofs.Common.{◌≡◌, ◌++◌, map}
 use Rattle.plain_lists.specs.Lists.{below}
-use Rattle.diagram_laws.specs.Strata.{bare_cover}
+use Rattle.rank_laws.specs.diagram_laws.Strata.{bare_cover}
 use Rattle.rank_cones.proofs.assembly.push_vertices.Given as goal
 
 abbrev pub invariant-loop-vertex : goal.invariant-loop-vertex

@@ -6,8 +6,8 @@ use Rattle.plain_lists.proofs.Each.{all_at}
 use Rattle.mesh_defs.specs.declared.Poly.TheVariants.{Vertex}
 use Rattle.mesh_defs.specs.Tables.{Facet, dim_of, facets_of, edges_of}
 use Rattle.mesh_defs.specs.Points.{Sight, vertex_sight}
-use Rattle.diagram_laws.specs.Strata.{entry_from}
-use Rattle.rank_diagram_laws.specs.Parts.{IsFacePart}
+use Rattle.rank_laws.specs.diagram_laws.Strata.{entry_from}
+use Rattle.rank_chart_laws.specs.rank_diagram_laws.Parts.{IsFacePart}
 use Rattle.rank_cones.specs.Placed.{sight_at}
 use Rattle.rank_cones.proofs.Polygons.{length-sides, side-facet}
 use Rattle.rank_cones.proofs.cones.face_cone.Goals as goal

@@ -4,7 +4,7 @@ use Rattle.plain_lists.specs.Lists.{picked}
 use Rattle.mesh_defs.specs.declared.Poly.TheVariants.{Vertex}
 use Rattle.mesh_defs.specs.Tables.{Facet, facets_of, edges_of}
 use Rattle.mesh_defs.specs.Mesh.{Cell}
-use Rattle.diagram_laws.specs.Strata.{entry_from}
+use Rattle.rank_laws.specs.diagram_laws.Strata.{entry_from}
 use Rattle.local_points.specs.Cells.{cell_at}
 use Rattle.rank_cones.proofs.Polygons.{length-sides, side-facet}
 use Rattle.rank_cones.proofs.cones.polygon_cone.Goals as goal

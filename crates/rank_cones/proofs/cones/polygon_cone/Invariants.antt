@@ -1,7 +1,7 @@
 use Rattle.std.proofs.Common.{◌≡◌, map, take}
 use Rattle.plain_lists.specs.Lists.{picked}
 use Rattle.mesh_defs.specs.Tables.{Facet, facets_of}
-use Rattle.diagram_laws.specs.Strata.{entry_from}
+use Rattle.rank_laws.specs.diagram_laws.Strata.{entry_from}
 use Rattle.local_points.specs.Cells.{cell_at}
 use Rattle.rank_cones.proofs.cones.polygon_cone.Given as goal
 

@@ -8,7 +8,7 @@ use Rattle.mesh_defs.specs.Tables.{Facet, facets_of, facet_at}
 use Rattle.mesh_defs.specs.Mesh.{Cell}
 use Rattle.mesh_defs.specs.Points.{Sight, cell_face, cell_faces, vertex_sight}
 use Rattle.plex_base.specs.declared.key.PointKey.{PointKey}
-use Rattle.diagram_laws.specs.Strata.{entry_from, first_twist}
+use Rattle.rank_laws.specs.diagram_laws.Strata.{entry_from, first_twist}
 use Rattle.local_points.specs.Cells.{cell_at}
 use Rattle.rank_cones.specs.Placed.{is_twisted, IsFirstTwist}
 use Rattle.rank_cones.specs.declared.stop.Stop.{Stop}

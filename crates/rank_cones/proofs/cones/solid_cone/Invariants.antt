@@ -3,7 +3,7 @@ use Rattle.std.specs.List.{list_any}
 use Rattle.plain_lists.specs.Lists.{picked}
 use Rattle.mesh_defs.specs.Tables.{Facet, facets_of}
 use Rattle.mesh_defs.specs.Points.{cell_faces}
-use Rattle.diagram_laws.specs.Strata.{entry_from}
+use Rattle.rank_laws.specs.diagram_laws.Strata.{entry_from}
 use Rattle.local_points.specs.Cells.{cell_at}
 use Rattle.rank_cones.specs.Placed.{is_twisted}
 use Rattle.rank_cones.proofs.cones.solid_cone.Given as goal

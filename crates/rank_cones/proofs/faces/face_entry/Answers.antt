@@ -11,7 +11,7 @@ use Rattle.mesh_defs.specs.Mesh.{Cell}
 use Rattle.mesh_defs.specs.Points.{Sight, point_on, shows}
 use Rattle.mesh_defs.specs.Diagram.{place_in}
 use Rattle.local_points.specs.Cells.{cell_at}
-use Rattle.diagram_laws.specs.Strata.{entry_from, turn_among}
+use Rattle.rank_laws.specs.diagram_laws.Strata.{entry_from, turn_among}
 use Rattle.rank_cones.proofs.Rows.{face-rows, face-row_low, face-move_low, face-moved}
 use Rattle.rank_cones.proofs.FaceRows.{facet-shown, facet-within, own-long, own-differ, own-turn}
 use Rattle.rank_cones.proofs.faces.face_entry.Goals as goal

@@ -6,7 +6,7 @@ use Rattle.mesh_defs.specs.declared.Poly.TheVariants.{Segment}
 use Rattle.mesh_defs.specs.Tables.{edge_at}
 use Rattle.mesh_defs.specs.Mesh.{Cell}
 use Rattle.mesh_defs.specs.Points.{Sight, point_on, shows}
-use Rattle.diagram_laws.specs.Strata.{entry_from}
+use Rattle.rank_laws.specs.diagram_laws.Strata.{entry_from}
 use Rattle.local_points.specs.Cells.{cell_at}
 use Rattle.rank_cones.proofs.Rows.{edge-rows, edge-row_low, edge-move_low, edge-moved}
 use Rattle.rank_cones.proofs.Polygons.{ends-at, ends-differ, side-there}

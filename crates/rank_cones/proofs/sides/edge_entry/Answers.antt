@@ -11,7 +11,7 @@ use Rattle.mesh_defs.specs.Sights.{IsEdgeSight, entry_among}
 use Rattle.plain_lists.proofs.Finding.{find-has}
 use Rattle.mesh_laws.proofs.Entries.{entry_among-found}
 use Rattle.rank_laws.proofs.Found.{two-entries}
-use Rattle.diagram_laws.specs.Strata.{entry_from, turn_among}
+use Rattle.rank_laws.specs.diagram_laws.Strata.{entry_from, turn_among}
 use Rattle.rank_cones.proofs.sides.edge_entry.Goals as goal
 use Rattle.rank_cones.proofs.sides.edge_entry.Goals.{then-own-ends, else-own-ends}
 

@@ -4,7 +4,7 @@ use Rattle.std.specs.List.{list_any}
 use Rattle.mesh_defs.specs.declared.Poly.TheVariants.{Segment}
 use Rattle.mesh_defs.specs.Mesh.{Cell}
 use Rattle.mesh_defs.specs.Points.{Point, Sight, point_on, shows}
-use Rattle.diagram_laws.specs.Strata.{entry_from}
+use Rattle.rank_laws.specs.diagram_laws.Strata.{entry_from}
 use Rattle.local_points.specs.Cells.{cell_at}
 use Rattle.local_points.specs.Points.{Local}
 use Rattle.rank_cones.proofs.Rows.{edge-own, found-moved}

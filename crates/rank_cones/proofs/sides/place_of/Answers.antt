@@ -1,6 +1,6 @@
 use Rattle.std.proofs.Common.{sym, Ok, Err}
 use Rattle.std.proofs.lemmas.List.Sorted.{searched}
-use Rattle.meeting_laws.proofs.Loops.{rising_place, not_missed, rising_le}
+use Rattle.rank_chart_laws.proofs.meeting_laws.Loops.{rising_place, not_missed, rising_le}
 use Rattle.rank_cones.proofs.sides.place_of.Goals as goal
 
 pub returns-in-Ok-clause-place : goal.returns-in-Ok-clause-place

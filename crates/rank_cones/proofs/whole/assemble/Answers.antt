@@ -3,8 +3,8 @@ use Rattle.mesh_defs.specs.Mesh.{Cell}
 use Rattle.mesh_defs.specs.Diagram.{Diagram}
 use Rattle.plex_base.specs.Dim.{dim_number}
 use Rattle.plex_chart.specs.Chart.{IsWhole}
-use Rattle.held_points.specs.Held.{Held}
-use Rattle.rank_diagram_laws.specs.Parts.{Parts, cell_part, face_part, edge_part}
+use Rattle.rank_cones.specs.held_points.Held.{Held}
+use Rattle.rank_chart_laws.specs.rank_diagram_laws.Parts.{Parts, cell_part, face_part, edge_part}
 use Rattle.rank_cones.specs.Assembly.{rank_parts}
 use Rattle.rank_cones.proofs.Wholes.{parts-whole}
 use Rattle.rank_cones.proofs.Assembling.{with-points, cells-part, length-vertices, length-faces, with-cells, with-vertices, with-faces, with-edges}

@@ -1,6 +1,6 @@
 use Rattle.std.proofs.Common.{subst}
 use Rattle.plex_base.specs.Dim.{dim_number}
-use Rattle.diagram_laws.specs.Strata.{face_sights}
+use Rattle.rank_laws.specs.diagram_laws.Strata.{face_sights}
 use Rattle.rank_cones.specs.Placed.{IsFirstTwist}
 use Rattle.rank_cones.proofs.RankParts.{rank-whole, draws-whole, draws-twisted}
 use Rattle.rank_cones.proofs.whole.rank_plex.Goals as goal

@@ -1,6 +1,6 @@
 use Rattle.std.proofs.Common.{◌≡◌, ◌+◌, ◌-◌, ◌≤◌, length, drop}
 use Rattle.std.specs.List.{position_or_len}
-use Rattle.line_defs.specs.Rows.{is_newline}
+use Rattle.input_defs.specs.line_defs.Rows.{is_newline}
 use Rattle.scan.proofs.cursor.line_end.Given as goal
 
 abbrev pub invariant-loop-end : goal.invariant-loop-end

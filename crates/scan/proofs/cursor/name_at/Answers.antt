@@ -1,5 +1,5 @@
 use Rattle.std.proofs.Common.{refl, ap, ◌∙◌}
-use Rattle.scan_defs.specs.Lines.{back}
+use Rattle.input_defs.specs.scan_defs.Lines.{back}
 use Rattle.scan.proofs.Places.{line-slice, name-within}
 use Rattle.scan.proofs.cursor.name_at.Goals as goal
 

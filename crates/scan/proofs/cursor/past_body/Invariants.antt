@@ -1,6 +1,6 @@
 use Rattle.std.proofs.Common.{◌≡◌, ◌-◌, ◌<◌, ◌≤◌, false, length, get_or}
-use Rattle.scan_defs.specs.Items.{ahead}
-use Rattle.scan_defs.specs.Steps.{next_header, ahead_after_header}
+use Rattle.input_defs.specs.scan_defs.Items.{ahead}
+use Rattle.input_defs.specs.scan_defs.Steps.{next_header, ahead_after_header}
 use Rattle.scan.specs.Cursors.{IsAt, is_gap, spot}
 use Rattle.scan.proofs.cursor.past_body.Given as goal
 

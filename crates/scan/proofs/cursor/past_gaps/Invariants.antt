@@ -1,6 +1,6 @@
 use Rattle.std.proofs.Common.{◌≡◌, ◌-◌, ◌≤◌, length}
-use Rattle.scan_defs.specs.Items.{ahead}
-use Rattle.scan_defs.specs.Quotes.{quoted_from}
+use Rattle.input_defs.specs.scan_defs.Items.{ahead}
+use Rattle.input_defs.specs.scan_defs.Quotes.{quoted_from}
 use Rattle.scan.specs.Cursors.{IsAt, spot}
 use Rattle.scan.proofs.cursor.past_gaps.Given as goal
 

@@ -1,6 +1,6 @@
 use Rattle.std.proofs.Common.{◌≡◌, ◌+◌, ◌≤◌, length, take}
 use Rattle.std.specs.List.{suffix_len}
-use Rattle.line_defs.specs.Rows.{is_blank}
+use Rattle.input_defs.specs.line_defs.Rows.{is_blank}
 use Rattle.scan.proofs.cursor.trimmed_end.Given as goal
 
 abbrev pub invariant-loop-end : goal.invariant-loop-end

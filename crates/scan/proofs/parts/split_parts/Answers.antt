@@ -1,6 +1,6 @@
 use Rattle.std.proofs.Common.{sym, ap, ◌∙◌}
 use Rattle.std.specs.List.{before_first, after_first}
-use Rattle.scan_defs.specs.Numbers.{is_mark, is_decimal_point}
+use Rattle.input_defs.specs.scan_defs.Numbers.{is_mark, is_decimal_point}
 use Rattle.scan.specs.Parts.{text_after_first, power_read}
 use Rattle.scan.proofs.Splits.{not-digits, not-power, has-parts}
 use Rattle.scan.proofs.parts.split_parts.Goals as goal

@@ -1,5 +1,5 @@
 use Rattle.std.proofs.Common.{◌≡◌, ◌++◌, ◌^◌, ◌<◌, length, take}
-use Rattle.line_defs.specs.Numbers.{fraction_digits}
+use Rattle.input_defs.specs.line_defs.Numbers.{fraction_digits}
 use Rattle.scan.proofs.print.append_fraction.Given as goal
 
 -- what is written, and the digits that are left, make the text

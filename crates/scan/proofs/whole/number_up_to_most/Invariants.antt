@@ -1,6 +1,6 @@
 use Rattle.std.proofs.Common.{◌≡◌, ◌-◌, ◌^◌, ◌<◌, min, drop}
 use Rattle.std.specs.List.{list_all}
-use Rattle.line_defs.specs.Numbers.{is_digit}
+use Rattle.input_defs.specs.line_defs.Numbers.{is_digit}
 use Rattle.scan.proofs.Digits.{after}
 use Rattle.scan.proofs.whole.number_up_to_most.Given as goal
 

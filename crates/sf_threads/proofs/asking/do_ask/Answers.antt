@@ -2,7 +2,7 @@ use Rattle.std.proofs.Common.{◌<◌, ◌+◌, ◌%◌, ◌^◌, min, max, refl
 use Rattle.std.specs.Prelude.{bit_and, bit_or}
 use Rattle.sf_defs.specs.declared.Op.TheVariants.{Load, Sum, Min, Max, Or, And, Replace}
 use Rattle.sf_defs.specs.Asks as asks
-use Rattle.thread_rule.proofs.Moves.{does-bare}
+use Rattle.sf_threads.proofs.thread_rule.Moves.{does-bare}
 use Rattle.sf_threads.proofs.asking.do_ask.Goals as goal
 
 pub load-requires : goal.load-requires

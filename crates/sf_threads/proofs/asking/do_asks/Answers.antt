@@ -3,8 +3,8 @@ use Rattle.std.proofs.lemmas.List.{length-set}
 use Rattle.atomic_table.specs.Table.{Me}
 use Rattle.sf_defs.specs.declared.Op.TheVariants.{Load}
 use Rattle.sf_defs.specs.declared.Ask.{Ask}
-use Rattle.thread_rule.specs.declared.view.View.{View}
-use Rattle.thread_rule.specs.Rule.{view}
+use Rattle.sf_threads.specs.declared.thread_rule.view.View.{View}
+use Rattle.sf_threads.specs.thread_rule.Rule.{view}
 use Rattle.sf_threads.proofs.Done.{dones-more, dones-none}
 use Rattle.sf_threads.proofs.asking.do_asks.Goals as goal
 

@@ -1,5 +1,5 @@
 use Rattle.std.proofs.Common.{◌≡◌, ◌+◌, [], take, length}
-use Rattle.thread_rule.specs.Rule.{view}
+use Rattle.sf_threads.specs.thread_rule.Rule.{view}
 use Rattle.sf_threads.specs.Doing.{dones}
 use Rattle.sf_threads.proofs.asking.do_asks.Given as goal
 

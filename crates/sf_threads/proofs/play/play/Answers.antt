@@ -1,7 +1,7 @@
 use Rattle.std.proofs.Common.{ℕ, List, [], sym, subst}
 use Rattle.atomic_table.specs.Table.{opening}
-use Rattle.thread_rule.specs.Rule.{Kept, everyone}
-use Rattle.thread_rule.proofs.Moves.{begins}
+use Rattle.sf_threads.specs.thread_rule.Rule.{Kept, everyone}
+use Rattle.sf_threads.proofs.thread_rule.Moves.{begins}
 use Rattle.sf_threads.proofs.play.play.Goals as goal
 
 pub of_words-requires : goal.of_words-requires

@@ -1,7 +1,7 @@
 use Rattle.std.proofs.Common.{◌≡◌, ◌+◌, length, ap, ◌∙◌, arith}
 use Rattle.atomic_table.specs.Table.{Me}
-use Rattle.thread_rule.specs.declared.view.View.{View}
-use Rattle.thread_rule.proofs.Moves.{splits, joins}
+use Rattle.sf_threads.specs.declared.thread_rule.view.View.{View}
+use Rattle.sf_threads.proofs.thread_rule.Moves.{splits, joins}
 use Rattle.sf_threads.proofs.Parts.{got-after, both-done}
 use Rattle.sf_threads.proofs.ranks.+ranks.Goals as goal
 

@@ -9,7 +9,7 @@ use Rattle.plain_lists.specs.Vectors.{lists_of}
 use Rattle.sf_defs.specs.declared.Ask.{Ask}
 use Rattle.sf_defs.specs.Rounds.{IsLegal, printed_turns}
 use Rattle.sf_fabric.specs.Cut.{shared}
-use Rattle.sf_orders.specs.Places.{AreAsked}
+use Rattle.sf_fabric.specs.orders.Places.{AreAsked}
 use Rattle.sf_threads.specs.Played.{HaveOrders}
 use Rattle.sf_threads.proofs.Legal.{asked, legal-of}
 use Rattle.sf_threads.proofs.round.thread_round.Goals as goal

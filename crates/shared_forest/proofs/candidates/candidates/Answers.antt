@@ -1,11 +1,11 @@
 use Rattle.std.proofs.Common.{◌≡◌, ◌<◌, ◌⊎◌, ℕ, Bool, true, List, [], length, get_or, Vec, Global, sym, ap, ◌∙◌, subst}
 use Rattle.std.specs.List.{AllByRecursion}
-use Rattle.share_laws.specs.Packed.{no_vertex}
+use Rattle.rank_laws.specs.share_laws.Packed.{no_vertex}
 use Rattle.plain_lists.proofs.Each.{all_at}
-use Rattle.meeting_laws.specs.Sets.{RankChart, IsSetOf, chart_at, has_vertex}
-use Rattle.meeting_laws.specs.Steps.{may_share, set_at}
-use Rattle.meeting_laws.proofs.Homes.{chart-right}
-use Rattle.meeting_laws.proofs.Loops.{kept_more, kept_less}
+use Rattle.rank_chart_laws.specs.meeting_laws.Sets.{RankChart, IsSetOf, chart_at, has_vertex}
+use Rattle.rank_chart_laws.specs.meeting_laws.Steps.{may_share, set_at}
+use Rattle.rank_chart_laws.proofs.meeting_laws.Homes.{chart-right}
+use Rattle.rank_chart_laws.proofs.meeting_laws.Loops.{kept_more, kept_less}
 use Rattle.shared_forest.specs.Flags.{AreFlagged, all_up}
 use Rattle.shared_forest.proofs.Flags.{set-flagged, up-is}
 use Rattle.shared_forest.proofs.candidates.candidates.Goals.{then-all_up+in_ok-push, else-all_up}

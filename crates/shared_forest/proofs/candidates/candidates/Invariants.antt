@@ -1,8 +1,8 @@
 use Rattle.std.proofs.Common.{◌≡◌}
 use Rattle.std.specs.List.{filter}
 use Rattle.plain_lists.specs.Lists.{below}
-use Rattle.meeting_laws.specs.Sets.{chart_at}
-use Rattle.meeting_laws.specs.Steps.{may_share, set_at}
+use Rattle.rank_chart_laws.specs.meeting_laws.Sets.{chart_at}
+use Rattle.rank_chart_laws.specs.meeting_laws.Steps.{may_share, set_at}
 use Rattle.shared_forest.proofs.candidates.candidates.Given as goal
 
 abbrev pub invariant-loop-k : goal.invariant-loop-k

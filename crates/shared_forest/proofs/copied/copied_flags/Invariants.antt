@@ -1,5 +1,5 @@
 use Rattle.std.proofs.Common.{◌≡◌, ◌<◌, ℕ, false, length, get_or}
-use Rattle.meeting_laws.specs.Steps.{is_copied}
+use Rattle.rank_chart_laws.specs.meeting_laws.Steps.{is_copied}
 use Rattle.shared_forest.proofs.copied.copied_flags.Given as goal
 
 abbrev pub invariant-loop-i : goal.invariant-loop-i

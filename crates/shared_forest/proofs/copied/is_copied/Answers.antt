@@ -1,10 +1,10 @@
 use Rattle.std.proofs.Common.{◌≡◌, ◌<◌, List, length, nat_lt, sym, ap, ap₂, ◌∙◌, subst, arith}
-use Rattle.meeting_laws.specs.Sets.{RankChart, chart_at}
-use Rattle.meeting_laws.specs.Steps.{vertex_place, vertex_at, owner_at}
+use Rattle.rank_chart_laws.specs.meeting_laws.Sets.{RankChart, chart_at}
+use Rattle.rank_chart_laws.specs.meeting_laws.Steps.{vertex_place, vertex_at, owner_at}
 use Rattle.sf_defs.specs.Forest.{Forest, degree, roots_on}
-use Rattle.meeting_laws.proofs.Homes.{chart-right}
-use Rattle.meeting_laws.proofs.Copies.{copied-then, copied-else}
-use Rattle.meeting_laws.proofs.Bounds.{vertex-roots, vertex-roots_on}
+use Rattle.rank_chart_laws.proofs.meeting_laws.Homes.{chart-right}
+use Rattle.rank_chart_laws.proofs.meeting_laws.Copies.{copied-then, copied-else}
+use Rattle.rank_chart_laws.proofs.meeting_laws.Bounds.{vertex-roots, vertex-roots_on}
 use Rattle.shared_forest.proofs.Flags.{place-back}
 use Rattle.shared_forest.proofs.copied.is_copied.Goals as goal
 

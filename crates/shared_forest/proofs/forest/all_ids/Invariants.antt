@@ -1,7 +1,7 @@
 use Rattle.std.proofs.Common.{◌≡◌, map}
 use Rattle.plain_lists.specs.Lists.{below}
 use Rattle.plain_lists.specs.Vectors.{lists_of}
-use Rattle.meeting_laws.specs.Steps.{meeting_ids}
+use Rattle.rank_chart_laws.specs.meeting_laws.Steps.{meeting_ids}
 use Rattle.shared_forest.proofs.forest.all_ids.Given as goal
 
 abbrev pub invariant-loop-rank : goal.invariant-loop-rank

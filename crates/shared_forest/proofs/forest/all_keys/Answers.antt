@@ -1,8 +1,8 @@
 use Rattle.std.proofs.Common.{ℕ, List, length, Vec, Global, ap, ◌∙◌, arith}
 use Rattle.plain_lists.specs.Vectors.{lists_of}
-use Rattle.meeting_laws.specs.Sets.{RankChart}
-use Rattle.meeting_laws.specs.Steps.{candidates, meeting_keys, all_keys}
-use Rattle.meeting_laws.proofs.Loops.{lists_count, list_is, made_below}
+use Rattle.rank_chart_laws.specs.meeting_laws.Sets.{RankChart}
+use Rattle.rank_chart_laws.specs.meeting_laws.Steps.{candidates, meeting_keys, all_keys}
+use Rattle.rank_chart_laws.proofs.meeting_laws.Loops.{lists_count, list_is, made_below}
 use Rattle.shared_forest.proofs.forest.all_keys.Goals as goal
 
 pub bounds-places-rank : goal.bounds-places-rank

@@ -3,10 +3,10 @@ use Rattle.plain_lists.specs.Vectors.{lists_of}
 use Rattle.sf_defs.specs.Forest.{Forest}
 use Rattle.sf_graph.specs.Parts.{IsForRanks}
 use Rattle.std.specs.Prelude.{IfOk}
-use Rattle.meeting_laws.specs.Sets.{RankChart}
-use Rattle.meeting_laws.specs.Steps.{candidates, meeting_leaves}
-use Rattle.meeting_laws.proofs.Loops.{lists_count, list_is, made_below, lists_pushed}
-use Rattle.meeting_laws.proofs.Bounds.{meeting-whole, meeting-forest-fits}
+use Rattle.rank_chart_laws.specs.meeting_laws.Sets.{RankChart}
+use Rattle.rank_chart_laws.specs.meeting_laws.Steps.{candidates, meeting_leaves}
+use Rattle.rank_chart_laws.proofs.meeting_laws.Loops.{lists_count, list_is, made_below, lists_pushed}
+use Rattle.rank_chart_laws.proofs.meeting_laws.Bounds.{meeting-whole, meeting-forest-fits}
 use Rattle.shared_forest.proofs.forest.meeting_forest.Goals as goal
 
 pub bounds-places-rank : goal.bounds-places-rank

@@ -1,11 +1,11 @@
 use Rattle.std.proofs.Common.{ℕ, List, sym, ap, ◌∙◌, subst}
 use Rattle.plain_lists.specs.Vectors.{lists_of}
 use Rattle.sf_defs.specs.Forest.{Forest}
-use Rattle.meet_defs.specs.Meeting.{HaveKeys}
+use Rattle.sf_defs.specs.meeting.Meeting.{HaveKeys}
 use Rattle.sf_ops.specs.Asked.{CoverLeaves}
-use Rattle.meeting_laws.specs.Sets.{RankChart}
-use Rattle.meeting_laws.specs.Steps.{meeting_forest}
-use Rattle.meeting_laws.proofs.Bounds.{keys-there, ids-there}
+use Rattle.rank_chart_laws.specs.meeting_laws.Sets.{RankChart}
+use Rattle.rank_chart_laws.specs.meeting_laws.Steps.{meeting_forest}
+use Rattle.rank_chart_laws.proofs.meeting_laws.Bounds.{keys-there, ids-there}
 use Rattle.shared_forest.proofs.forest.met_ids.Goals as goal
 
 pub meet-requires-clause-keys : goal.meet-requires-clause-keys

@@ -1,6 +1,6 @@
 use Rattle.std.proofs.Common.{arith}
-use Rattle.meeting_laws.specs.Sets.{point_count}
-use Rattle.meeting_laws.proofs.Bounds.{of-charts}
+use Rattle.rank_chart_laws.specs.meeting_laws.Sets.{point_count}
+use Rattle.rank_chart_laws.proofs.meeting_laws.Bounds.{of-charts}
 use Rattle.shared_forest.proofs.forest.point_counts.Goals as goal
 
 pub returns : goal.returns

@@ -1,6 +1,6 @@
 use Rattle.std.proofs.Common.{◌≡◌, map}
 use Rattle.plain_lists.specs.Lists.{below}
-use Rattle.meeting_laws.specs.Sets.{chart_at, point_count}
+use Rattle.rank_chart_laws.specs.meeting_laws.Sets.{chart_at, point_count}
 use Rattle.shared_forest.proofs.forest.point_counts.Given as goal
 
 abbrev pub invariant-loop-rank : goal.invariant-loop-rank

@@ -2,10 +2,10 @@ use Rattle.std.proofs.Common.{◌≡◌, List, map, length, sym, ap, ◌∙◌, 
 use Rattle.plain_lists.specs.Vectors.{lists_of}
 use Rattle.sf_defs.specs.Forest.{Forest}
 use Rattle.std.specs.Prelude.{IfOk}
-use Rattle.meeting_laws.specs.Sets.{RankChart}
-use Rattle.meeting_laws.specs.Steps.{joined_forest}
-use Rattle.meeting_laws.proofs.Bounds.{ids-shape}
-use Rattle.meeting_laws.proofs.Joined.{joined-forest}
+use Rattle.rank_chart_laws.specs.meeting_laws.Sets.{RankChart}
+use Rattle.rank_chart_laws.specs.meeting_laws.Steps.{joined_forest}
+use Rattle.rank_chart_laws.proofs.meeting_laws.Bounds.{ids-shape}
+use Rattle.rank_chart_laws.proofs.meeting_laws.Joined.{joined-forest}
 use Rattle.shared_forest.proofs.forest.shared_forest.Goals as goal
 
 pub joined_forest-requires-clause-shape : goal.joined_forest-requires-clause-shape

@@ -3,12 +3,12 @@ use Rattle.std.specs.List.{position_or_len}
 use Rattle.std.proofs.lemmas.Bool.{eq-eqb, ne_eqb}
 use Rattle.sf_defs.specs.declared.Leaf.{Leaf}
 use Rattle.sf_defs.specs.Forest.{leaf}
-use Rattle.share_laws.specs.Packed.{no_vertex}
-use Rattle.meeting_laws.specs.Sets.{RankChart, chart_at}
-use Rattle.meeting_laws.specs.Steps.{vertex_place, vertex_at, owner_at, vertex_home}
-use Rattle.meeting_laws.proofs.Homes.{placed-vertex}
-use Rattle.meeting_laws.proofs.Bounds.{owner-has, count-fits}
-use Rattle.meeting_laws.proofs.Loops.{same_within, moved_there, behind_more, behind_less}
+use Rattle.rank_laws.specs.share_laws.Packed.{no_vertex}
+use Rattle.rank_chart_laws.specs.meeting_laws.Sets.{RankChart, chart_at}
+use Rattle.rank_chart_laws.specs.meeting_laws.Steps.{vertex_place, vertex_at, owner_at, vertex_home}
+use Rattle.rank_chart_laws.proofs.meeting_laws.Homes.{placed-vertex}
+use Rattle.rank_chart_laws.proofs.meeting_laws.Bounds.{owner-has, count-fits}
+use Rattle.rank_chart_laws.proofs.meeting_laws.Loops.{same_within, moved_there, behind_more, behind_less}
 use Rattle.shared_forest.proofs.joining.push_ghosts.Goals.{then-owner-rank+in_ok-push, else-owner-rank}
 use Rattle.shared_forest.proofs.joining.push_ghosts.Goals as goal
 

@@ -2,11 +2,11 @@ use Rattle.std.proofs.Common.{◌≡◌, ℕ, ◌+◌, ◌/◌, ◌%◌, ◌^◌
 use Rattle.std.proofs.lemmas.Bool.{eq-eqb, ne_eqb}
 use Rattle.sf_defs.specs.declared.Leaf.{Leaf}
 use Rattle.sf_defs.specs.Forest.{leaf}
-use Rattle.meeting_laws.specs.Sets.{RankChart, chart_at}
-use Rattle.meeting_laws.specs.Steps.{behind, candidates}
-use Rattle.meeting_laws.proofs.Meeting.{candidate-is}
-use Rattle.meeting_laws.proofs.Bounds.{count-fits}
-use Rattle.meeting_laws.proofs.Loops.{behind_more, behind_less}
+use Rattle.rank_chart_laws.specs.meeting_laws.Sets.{RankChart, chart_at}
+use Rattle.rank_chart_laws.specs.meeting_laws.Steps.{behind, candidates}
+use Rattle.rank_chart_laws.proofs.meeting_laws.Meeting.{candidate-is}
+use Rattle.rank_chart_laws.proofs.meeting_laws.Bounds.{count-fits}
+use Rattle.rank_chart_laws.proofs.meeting_laws.Loops.{behind_more, behind_less}
 use Rattle.shared_forest.proofs.joining.push_met.Goals.{then-first_rank-rank+in_ok-push, else-first_rank-rank}
 use Rattle.shared_forest.proofs.joining.push_met.Goals as goal
 

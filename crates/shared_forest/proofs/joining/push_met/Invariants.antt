@@ -1,7 +1,7 @@
 use Rattle.std.proofs.Common.{◌≡◌, ◌++◌, ◌==◌, not, get_or, ◌/◌, ◌%◌, ◌^◌}
 use Rattle.sf_defs.specs.Forest.{leaf}
-use Rattle.meeting_laws.specs.Sets.{chart_at}
-use Rattle.meeting_laws.specs.Steps.{chosen, behind, candidates}
+use Rattle.rank_chart_laws.specs.meeting_laws.Sets.{chart_at}
+use Rattle.rank_chart_laws.specs.meeting_laws.Steps.{chosen, behind, candidates}
 use Rattle.shared_forest.proofs.joining.push_met.Given as goal
 
 abbrev pub invariant-loop-j : goal.invariant-loop-j

@@ -1,7 +1,7 @@
 use Rattle.std.proofs.Common.{◌<◌, List, length, get_or, sym, ap, subst, arith}
-use Rattle.meeting_laws.specs.Sets.{RankChart, chart_at}
-use Rattle.meeting_laws.proofs.Meeting.{candidate-is}
-use Rattle.meeting_laws.proofs.Bounds.{count-fits}
+use Rattle.rank_chart_laws.specs.meeting_laws.Sets.{RankChart, chart_at}
+use Rattle.rank_chart_laws.proofs.meeting_laws.Meeting.{candidate-is}
+use Rattle.rank_chart_laws.proofs.meeting_laws.Bounds.{count-fits}
 use Rattle.shared_forest.proofs.meeting.meeting_ids.Goals as goal
 
 pub overflow_add-first-in-loop-place : goal.overflow_add-first-in-loop-place

@@ -1,6 +1,6 @@
 use Rattle.std.proofs.Common.{◌≡◌, map, take}
-use Rattle.meeting_laws.specs.Sets.{chart_at}
-use Rattle.meeting_laws.specs.Steps.{point_id, behind}
+use Rattle.rank_chart_laws.specs.meeting_laws.Sets.{chart_at}
+use Rattle.rank_chart_laws.specs.meeting_laws.Steps.{point_id, behind}
 use Rattle.shared_forest.proofs.meeting.meeting_ids.Given as goal
 
 abbrev pub invariant-loop-place : goal.invariant-loop-place

@@ -1,9 +1,9 @@
 use Rattle.std.proofs.Common.{◌<◌, List, [], length, get_or, sym, ap, ◌∙◌, subst, arith}
-use Rattle.share_laws.specs.Packed.{packed}
-use Rattle.meeting_laws.specs.Sets.{RankChart, chart_at}
-use Rattle.meeting_laws.specs.Steps.{set_at}
-use Rattle.meeting_laws.proofs.Meeting.{candidate-is}
-use Rattle.meeting_laws.proofs.Loops.{mapped_more}
+use Rattle.rank_laws.specs.share_laws.Packed.{packed}
+use Rattle.rank_chart_laws.specs.meeting_laws.Sets.{RankChart, chart_at}
+use Rattle.rank_chart_laws.specs.meeting_laws.Steps.{set_at}
+use Rattle.rank_chart_laws.proofs.meeting_laws.Meeting.{candidate-is}
+use Rattle.rank_chart_laws.proofs.meeting_laws.Loops.{mapped_more}
 use Rattle.shared_forest.proofs.meeting.meeting_keys.Goals as goal
 
 pub bounds-sets-place : goal.bounds-sets-place

@@ -1,7 +1,7 @@
 use Rattle.std.proofs.Common.{◌≡◌, map, take}
-use Rattle.share_laws.specs.Packed.{packed}
-use Rattle.meeting_laws.specs.Sets.{chart_at}
-use Rattle.meeting_laws.specs.Steps.{set_at}
+use Rattle.rank_laws.specs.share_laws.Packed.{packed}
+use Rattle.rank_chart_laws.specs.meeting_laws.Sets.{chart_at}
+use Rattle.rank_chart_laws.specs.meeting_laws.Steps.{set_at}
 use Rattle.shared_forest.proofs.meeting.meeting_keys.Given as goal
 
 abbrev pub invariant-loop-place : goal.invariant-loop-place

@@ -1,10 +1,10 @@
 use Rattle.std.proofs.Common.{ℕ, ◌<◌, List, [], length, get_or, sym, ap, ap₂, ◌∙◌, subst, arith}
 use Rattle.sf_defs.specs.Forest.{leaf}
-use Rattle.meeting_laws.specs.Sets.{RankChart, chart_at, IsSetOf}
-use Rattle.meeting_laws.specs.Steps.{meeting_place, set_at, candidates}
-use Rattle.meeting_laws.proofs.Meeting.{candidate-is, set-right}
-use Rattle.meeting_laws.proofs.Loops.{pushed_below}
-use Rattle.meeting_laws.proofs.Bounds.{count-fits, candidates-few}
+use Rattle.rank_chart_laws.specs.meeting_laws.Sets.{RankChart, chart_at, IsSetOf}
+use Rattle.rank_chart_laws.specs.meeting_laws.Steps.{meeting_place, set_at, candidates}
+use Rattle.rank_chart_laws.proofs.meeting_laws.Meeting.{candidate-is, set-right}
+use Rattle.rank_chart_laws.proofs.meeting_laws.Loops.{pushed_below}
+use Rattle.rank_chart_laws.proofs.meeting_laws.Bounds.{count-fits, candidates-few}
 use Rattle.shared_forest.proofs.meeting.meeting_leaves.Goals as goal
 
 pub bounds-sets-places : goal.bounds-sets-places

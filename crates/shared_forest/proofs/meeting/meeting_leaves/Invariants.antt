@@ -1,8 +1,8 @@
 use Rattle.std.proofs.Common.{◌≡◌, map, get_or}
 use Rattle.plain_lists.specs.Lists.{below}
 use Rattle.sf_defs.specs.Forest.{leaf}
-use Rattle.meeting_laws.specs.Sets.{chart_at}
-use Rattle.meeting_laws.specs.Steps.{meeting_place, set_at, candidates}
+use Rattle.rank_chart_laws.specs.meeting_laws.Sets.{chart_at}
+use Rattle.rank_chart_laws.specs.meeting_laws.Steps.{meeting_place, set_at, candidates}
 use Rattle.shared_forest.proofs.meeting.meeting_leaves.Given as goal
 
 abbrev pub invariant-loop-j : goal.invariant-loop-j

@@ -1,11 +1,11 @@
 use Rattle.std.proofs.Common.{◌≡◌, ℕ, ◌<◌, ◌==◌, List, length, get_or, refl, sym, ap, ◌∙◌, subst, arith}
 use Rattle.std.specs.List.{position_or_len}
-use Rattle.share_laws.specs.Packed.{no_vertex}
-use Rattle.meeting_laws.specs.Sets.{RankChart, chart_at}
-use Rattle.meeting_laws.specs.Steps.{vertex_place, owner_at}
-use Rattle.meeting_laws.proofs.Homes.{placed-vertex}
-use Rattle.meeting_laws.proofs.Loops.{same_within, moved_there}
-use Rattle.meeting_laws.proofs.Bounds.{first-vertex, owner-of, place-from}
+use Rattle.rank_laws.specs.share_laws.Packed.{no_vertex}
+use Rattle.rank_chart_laws.specs.meeting_laws.Sets.{RankChart, chart_at}
+use Rattle.rank_chart_laws.specs.meeting_laws.Steps.{vertex_place, owner_at}
+use Rattle.rank_chart_laws.proofs.meeting_laws.Homes.{placed-vertex}
+use Rattle.rank_chart_laws.proofs.meeting_laws.Loops.{same_within, moved_there}
+use Rattle.rank_chart_laws.proofs.meeting_laws.Bounds.{first-vertex, owner-of, place-from}
 use Rattle.shared_forest.proofs.meeting.meeting_place.Goals as goal
 
 pub owner-owner-requires-clause-place : goal.owner-owner-requires-clause-place

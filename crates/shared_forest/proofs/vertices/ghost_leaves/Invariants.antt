@@ -1,7 +1,7 @@
 use Rattle.std.proofs.Common.{◌≡◌, ◌==◌, not}
 use Rattle.sf_defs.specs.Forest.{leaf}
-use Rattle.meeting_laws.specs.Sets.{chart_at}
-use Rattle.meeting_laws.specs.Steps.{chosen, owner_at, vertex_home}
+use Rattle.rank_chart_laws.specs.meeting_laws.Sets.{chart_at}
+use Rattle.rank_chart_laws.specs.meeting_laws.Steps.{chosen, owner_at, vertex_home}
 use Rattle.shared_forest.proofs.vertices.ghost_leaves.Given as goal
 
 abbrev pub invariant-loop-i : goal.invariant-loop-i

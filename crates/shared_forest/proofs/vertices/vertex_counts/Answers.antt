@@ -1,6 +1,6 @@
 use Rattle.std.proofs.Common.{length, arith}
-use Rattle.meeting_laws.specs.Sets.{RankChart}
-use Rattle.meeting_laws.proofs.Bounds.{of-charts}
+use Rattle.rank_chart_laws.specs.meeting_laws.Sets.{RankChart}
+use Rattle.rank_chart_laws.proofs.meeting_laws.Bounds.{of-charts}
 use Rattle.shared_forest.proofs.vertices.vertex_counts.Goals as goal
 
 pub returns : goal.returns

@@ -3,10 +3,10 @@ use Rattle.plain_lists.specs.Vectors.{lists_of}
 use Rattle.sf_defs.specs.Forest.{Forest}
 use Rattle.sf_graph.specs.Parts.{IsForRanks}
 use Rattle.std.specs.Prelude.{IfOk}
-use Rattle.meeting_laws.specs.Sets.{RankChart}
-use Rattle.meeting_laws.specs.Steps.{ghost_leaves}
-use Rattle.meeting_laws.proofs.Loops.{made_below}
-use Rattle.meeting_laws.proofs.Bounds.{vertex-whole, vertex-forest-fits}
+use Rattle.rank_chart_laws.specs.meeting_laws.Sets.{RankChart}
+use Rattle.rank_chart_laws.specs.meeting_laws.Steps.{ghost_leaves}
+use Rattle.rank_chart_laws.proofs.meeting_laws.Loops.{made_below}
+use Rattle.rank_chart_laws.proofs.meeting_laws.Bounds.{vertex-whole, vertex-forest-fits}
 use Rattle.shared_forest.proofs.vertices.vertex_forest.Goals as goal
 
 pub made_of-requires : goal.made_of-requires

@@ -1,7 +1,7 @@
 use Rattle.std.proofs.Common.{length, sym, ap, ◌∙◌}
 use Rattle.std.proofs.lemmas.List.{length-map}
-use Rattle.scatter_state.specs.Parts.{number_of}
-use Rattle.scatter_state.specs.Whole.{part_at}
+use Rattle.dist_state.specs.scatter_state.Parts.{number_of}
+use Rattle.dist_state.specs.scatter_state.Whole.{part_at}
 use Rattle.spread_tests.proofs.Rows.{many_on, rows-many}
 use Rattle.spread_tests.proofs.seeds.rows_on.Goals as goal
 

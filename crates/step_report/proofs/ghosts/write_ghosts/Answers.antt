@@ -1,8 +1,8 @@
 use Rattle.std.proofs.Common.{◌≡◌, ◌<◌, ℕ, List, length, arith}
 use Rattle.std.specs.Prelude.{flat_map}
 use Rattle.plain_lists.specs.Lists.{below}
-use Rattle.step_defs.specs.Points.{owned_by}
-use Rattle.step_defs.specs.Steps.{plain_ghosts}
+use Rattle.walk_defs.specs.step_defs.Points.{owned_by}
+use Rattle.walk_defs.specs.step_defs.Steps.{plain_ghosts}
 use Rattle.step_report.specs.Ghosts.{ghost_text}
 use Rattle.step_report.proofs.Going.{going-next, going-stop, below-more}
 use Rattle.step_report.proofs.ghosts.write_ghosts.Goals as goal

@@ -2,7 +2,7 @@ use Rattle.std.proofs.Common.{length, Ok}
 use Rattle.std.specs.Prelude.{flat_map}
 use Rattle.cause_defs.specs.Reports.{Reports}
 use Rattle.plain_lists.specs.Lists.{below}
-use Rattle.step_defs.specs.Points.{owned_by}
+use Rattle.walk_defs.specs.step_defs.Points.{owned_by}
 use Rattle.step_report.specs.Ghosts.{ghost_text}
 use Rattle.step_report.proofs.ghosts.write_ghosts.Given as goal
 

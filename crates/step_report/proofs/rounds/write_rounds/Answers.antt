@@ -3,8 +3,8 @@ use Rattle.std.specs.Prelude.{flat_map}
 use Rattle.plain_lists.specs.Lists.{below}
 use Rattle.plain_lists.proofs.Each.{all_at}
 use Rattle.sf_defs.specs.Rounds.{IsLegal}
-use Rattle.report_lines.specs.Windows.{HasEntries}
-use Rattle.step_defs.specs.Steps.{plain_round}
+use Rattle.report.specs.report_lines.Windows.{HasEntries}
+use Rattle.walk_defs.specs.step_defs.Steps.{plain_round}
 use Rattle.step_report.proofs.Going.{going-next, going-stop, below-more}
 use Rattle.step_report.proofs.Entering.{no_round, round_at, rounds-by_places, at-any, legal-entries}
 use Rattle.step_report.proofs.rounds.write_rounds.Goals as goal

@@ -2,7 +2,7 @@ use Rattle.std.proofs.Common.{Ok}
 use Rattle.std.specs.Prelude.{flat_map}
 use Rattle.cause_defs.specs.Reports.{Reports}
 use Rattle.plain_lists.specs.Lists.{below}
-use Rattle.step_defs.specs.Steps.{plain_round}
+use Rattle.walk_defs.specs.step_defs.Steps.{plain_round}
 use Rattle.step_report.proofs.Entering.{round_at}
 use Rattle.step_report.proofs.rounds.write_rounds.Given as goal
 

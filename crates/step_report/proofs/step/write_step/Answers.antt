@@ -1,6 +1,6 @@
 use Rattle.std.proofs.lemmas.List.FromFn.{length-enumerate_from}
 use Rattle.cause_defs.proofs.Reporting.{Reports-then, Reports-stop, Reports-exit}
-use Rattle.step_defs.specs.Steps.{plain_step, plain_details}
+use Rattle.walk_defs.specs.step_defs.Steps.{plain_step, plain_details}
 use Rattle.step_report.specs.Desks.{plain_lines}
 use Rattle.step_report.specs.Pages.{details_of}
 use Rattle.step_report.proofs.step.write_step.Goals as goal

@@ -1,6 +1,6 @@
 use Rattle.std.proofs.Common.{◌≡◌, ◌+ℤ◌, take, map, fold}
-use Rattle.step_defs.specs.Words.{signed_of}
-use Rattle.step_defs.specs.Steps.{words_in}
+use Rattle.walk_defs.specs.step_defs.Words.{signed_of}
+use Rattle.walk_defs.specs.step_defs.Steps.{words_in}
 use Rattle.step_report.proofs.sums.add_data.Given as goal
 
 -- the fields up to here are added

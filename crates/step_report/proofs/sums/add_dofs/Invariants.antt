@@ -1,5 +1,5 @@
 use Rattle.std.proofs.Common.{◌≡◌, ◌+◌, take, drop, fold}
-use Rattle.step_defs.specs.Steps.{words_in}
+use Rattle.walk_defs.specs.step_defs.Steps.{words_in}
 use Rattle.step_report.proofs.sums.add_dofs.Given as goal
 
 -- the fields up to here are added

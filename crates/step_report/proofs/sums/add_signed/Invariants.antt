@@ -1,5 +1,5 @@
 use Rattle.std.proofs.Common.{◌≡◌, ◌+ℤ◌, take, map, fold}
-use Rattle.step_defs.specs.Words.{signed_of}
+use Rattle.walk_defs.specs.step_defs.Words.{signed_of}
 use Rattle.step_report.proofs.sums.add_signed.Given as goal
 
 -- the words up to here are added

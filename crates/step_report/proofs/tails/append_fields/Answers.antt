@@ -1,7 +1,7 @@
 use Rattle.std.proofs.Common.{◌≡◌, ◌++◌, ◌∙◌, [], ℕ, List, length, sym, ap, Ok, ◌+◌, arith}
 use Rattle.std.specs.Prelude.{flat_map, get_or}
 use Rattle.plain_lists.specs.Lists.{below}
-use Rattle.step_defs.specs.Points.{words_text, fields_of}
+use Rattle.walk_defs.specs.step_defs.Points.{words_text, fields_of}
 use Rattle.step_report.proofs.Going.{below-more, texts-by_places, appended-second}
 use Rattle.step_report.proofs.tails.append_fields.Goals as goal
 

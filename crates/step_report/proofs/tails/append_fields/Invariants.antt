@@ -1,7 +1,7 @@
 use Rattle.std.proofs.Common.{◌≡◌, ◌++◌, []}
 use Rattle.std.specs.Prelude.{flat_map, get_or}
 use Rattle.plain_lists.specs.Lists.{below}
-use Rattle.step_defs.specs.Points.{words_text}
+use Rattle.walk_defs.specs.step_defs.Points.{words_text}
 use Rattle.step_report.proofs.tails.append_fields.Given as goal
 
 -- the fields up to here are appended

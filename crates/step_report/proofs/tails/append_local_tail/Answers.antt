@@ -1,7 +1,7 @@
 use Rattle.std.proofs.Common.{◌≡◌, ◌∙◌, ap}
 use Rattle.mesh_defs.specs.Diagram.{Diagram}
 use Rattle.plex_defs.specs.Closure.{point_in}
-use Rattle.step_defs.specs.Points.{covers_of}
+use Rattle.walk_defs.specs.step_defs.Points.{covers_of}
 use Rattle.step_report.proofs.Going.{appended-second}
 use Rattle.step_report.proofs.Tailing.{tail-parts}
 use Rattle.step_report.proofs.tails.append_local_tail.Goals as goal

@@ -1,8 +1,8 @@
 use Rattle.std.proofs.Common.{◌≡◌, ◌++◌, take}
 use Rattle.std.specs.Prelude.{flat_map}
-use Rattle.text_defs.specs.Text.{entry_text}
-use Rattle.step_defs.specs.Points.{renamed}
-use Rattle.step_defs.specs.Steps.{numbers_on}
+use Rattle.input_defs.specs.text_defs.Text.{entry_text}
+use Rattle.walk_defs.specs.step_defs.Points.{renamed}
+use Rattle.walk_defs.specs.step_defs.Steps.{numbers_on}
 use Rattle.step_report.proofs.tails.append_numbered.Given as goal
 
 -- the entries up to here are appended

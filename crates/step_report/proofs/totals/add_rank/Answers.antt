@@ -1,7 +1,7 @@
 use Rattle.std.proofs.Common.{◌≡◌, ◌<◌, ◌≤◌, ◌==◌, length, get_or, ap, ◌∙◌, arith}
 use Rattle.std.specs.Prelude.{if◌then◌else◌}
 use Rattle.mesh_defs.specs.Diagram.{Diagram}
-use Rattle.step_defs.specs.Steps.{own_cells, own_faces}
+use Rattle.walk_defs.specs.step_defs.Steps.{own_cells, own_faces}
 use Rattle.step_report.specs.Conditions.{local_at}
 use Rattle.step_report.proofs.Counting.{totals-more}
 use Rattle.step_report.proofs.Paging.{local-found}

@@ -2,7 +2,7 @@ use Rattle.std.proofs.Common.{sym, ap}
 use Rattle.mesh_defs.specs.declared.Place.TheVariants as place
 use Rattle.input_defs.specs.declared.MshFault.TheVariants.{BadCount}
 use Rattle.input_defs.specs.Files.{file_numbers}
-use Rattle.reading_laws.specs.Going.{closed}
+use Rattle.input_laws.specs.reading_laws.Going.{closed}
 use Rattle.msh_reader.specs.NumberSets.{numbers_of}
 use Rattle.msh_reader.specs.Taking.{parts_view}
 use Rattle.msh_reader.proofs.Earlier.{SameNumbers}

@@ -1,7 +1,7 @@
 use Rattle.std.proofs.Common.{◌≡◌, ◌∙◌, sym, ap}
 use Rattle.std.specs.Prelude.{Ok, None, option_map}
 use Rattle.std.proofs.lemmas.Result.{IfOk-at_ok}
-use Rattle.line_defs.specs.Rows.{tokens_of}
+use Rattle.input_defs.specs.line_defs.Rows.{tokens_of}
 use Rattle.input_defs.specs.Plans.{form_of}
 use Rattle.plan_reader.specs.Reading.{form_view}
 use Rattle.plan_reader.proofs.Takes.{mapped, no_form}

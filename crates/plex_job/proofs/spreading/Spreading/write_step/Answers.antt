@@ -1,7 +1,7 @@
 use Rattle.std.proofs.Common.{◌≡◌, ap, subst, ◌∙◌, arith}
 use Rattle.cause_defs.specs.Reports.{Reports}
 use Rattle.cause_defs.proofs.Reporting.{Reports-then, Reports-stop, Reports-exit}
-use Rattle.step_defs.specs.Steps.{plain_step}
+use Rattle.walk_defs.specs.step_defs.Steps.{plain_step}
 use Rattle.plex_job.specs.Spreading.{printed_at}
 use Rattle.plex_job.proofs.Once.{states-count}
 use Rattle.plex_job.proofs.Printing.{lines-same}

@@ -1,7 +1,7 @@
 use Rattle.std.proofs.Common.{◌<◌, ◌++◌, [], ◌∷◌, length, ap, ◌∙◌, arith}
 use Rattle.input_defs.specs.States.{states, first_ranks}
 use Rattle.plan_reader.specs.Drafts.{counts_of}
-use Rattle.job_task.specs.Reading.{task_view}
+use Rattle.plex_job.specs.job_task.Reading.{task_view}
 use Rattle.plex_job.specs.Spreading.{printed}
 use Rattle.plex_job.proofs.Once.{built-once, states-count}
 use Rattle.plex_job.proofs.Course.{done-none, done-next, done-all, stop-undrawn, stop-unwritten, stop-writing, kept-number, later-none, step-of}

@@ -1,5 +1,5 @@
 use Rattle.std.proofs.Common.{append_assoc}
-use Rattle.text_defs.specs.Refusals.{too_long_refused}
+use Rattle.input_defs.specs.text_defs.Refusals.{too_long_refused}
 use Rattle.report.proofs.refusal.Refusal.append_to.Goals as goal
 
 pub returns-in-TooLong : goal.returns-in-TooLong

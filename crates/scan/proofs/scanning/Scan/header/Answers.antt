@@ -1,5 +1,5 @@
 use Rattle.std.proofs.Common.{sym, ap, ◌∙◌, arith}
-use Rattle.scan_defs.specs.Steps.{next_header, ahead_after_header}
+use Rattle.input_defs.specs.scan_defs.Steps.{next_header, ahead_after_header}
 use Rattle.scan.proofs.Places.{ahead-end}
 use Rattle.scan.proofs.scanning.Scan.header.Goals as goal
 

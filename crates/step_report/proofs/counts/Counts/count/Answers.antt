@@ -6,7 +6,7 @@ use Rattle.mesh_defs.specs.declared.Poly.{Poly}
 use Rattle.mesh_defs.specs.Tables.{dim_of}
 use Rattle.mesh_defs.specs.Diagram.{Diagram}
 use Rattle.plex_defs.specs.Closure.{point_in}
-use Rattle.step_defs.specs.Points.{poly_of}
+use Rattle.walk_defs.specs.step_defs.Points.{poly_of}
 use Rattle.step_report.specs.Counts.{is_of, has_dim, owned_before}
 use Rattle.step_report.proofs.Placing.{count-shown, count-hidden, count-le}
 use Rattle.step_report.proofs.Counting.{get_or-counted, count-two, count-stays, dim-few}

@@ -1,2 +1,0 @@
-//! Laws of the simple command by which the words of a call are read with `clap`.
-#![tactic(auto)]

@@ -1,6 +1,0 @@
-//! The first trace of a distributed mesh: where each rank has the points that it owns.
-#![tactic(auto)]
-
-mod tracing;
-
-pub use tracing::first_trace;

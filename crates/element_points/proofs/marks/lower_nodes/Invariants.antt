@@ -1,6 +1,0 @@
-use Rattle.std.proofs.Common.{◌≡◌, ℕ, true, false, get_or, take}
-use Rattle.element_points.specs.Marks.{lower_has}
-use Rattle.element_points.proofs.marks.lower_nodes.Given as goal
-
-abbrev pub invariant-loop-i : goal.invariant-loop-i
-invariant-loop-i l = (n : ℕ) → get_or l.flags.items n true ≡ false → lower_has l.places (take l.i l.places.elements) n ≡ false

@@ -1,9 +1,0 @@
-use Rattle.std.proofs.Common.{List, ℕ, map, take}
-use Rattle.plain_lists.specs.Lists.{picked}
-use Rattle.mesh_defs.specs.Tables.{edges_of}
-use Rattle.element_points.specs.Parts.{part}
-use Rattle.element_points.specs.Flags.{AreSet}
-use Rattle.element_points.proofs.parts.set_edges.Given as goal
-
-abbrev pub invariant-loop-e : goal.invariant-loop-e
-invariant-loop-e l = AreSet l.places.elements (map (λ (x : List ℕ). part 1 (picked l.nodes x)) (take l.e (edges_of l.poly))) l.fn.found l.found

@@ -1,9 +1,0 @@
-//! Which elements of a mesh file are on points of its mesh.
-#![tactic(auto)]
-
-mod flags;
-mod marks;
-mod parts;
-mod points;
-
-pub use points::{count_loose, on_points};

@@ -1,5 +1,0 @@
-use Rattle.field_laws.proofs.Marks.{own-label}
-use Rattle.field_laws.proofs.kept_marks_make_the_labels.Goals as goal
-
-pub returns : goal.returns
-returns c = λ m cells dim flat sound are. own-label m cells flat sound are dim

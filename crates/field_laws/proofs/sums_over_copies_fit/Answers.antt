@@ -1,5 +1,0 @@
-use Rattle.field_laws.proofs.Shared.{sums-fit}
-use Rattle.field_laws.proofs.sums_over_copies_fit.Goals as goal
-
-pub returns : goal.returns
-returns c = λ m n a flat right parts. sums-fit m n a flat right.sound parts.each right.few_cells parts.few_ranks

@@ -1,7 +1,0 @@
-use Rattle.std.proofs.Common.{◌≡◌, map, take}
-use Rattle.held_points.specs.Held.{face_on, given_point}
-use Rattle.held_points.specs.Stored.{face_of}
-use Rattle.held_points.proofs.strata.faces_in.Given as goal
-
-abbrev pub invariant-loop-place : goal.invariant-loop-place
-invariant-loop-place l = map face_of l.faces.items ≡ map (given_point face_on l.keys l.lists) (take l.place-index l.order)

@@ -1,5 +1,0 @@
-use Rattle.home_laws.proofs.KeysBack.{keys-back}
-use Rattle.home_laws.proofs.home_roots_have_the_keys.Goals as goal
-
-pub returns : goal.returns
-returns c = λ m n a r roots parts home shape words. keys-back m n a parts r home roots shape words

@@ -1,6 +1,0 @@
-use Rattle.std.proofs.Common.{◌≡◌, length, map, take}
-use Rattle.plain_lists.specs.Vectors.{lists_of}
-use Rattle.iface_keys.proofs.leaves.lengths.Given as goal
-
-abbrev pub invariant-loop-list : goal.invariant-loop-list
-invariant-loop-list l = l.lengths.items ≡ map length (take l.list-index (lists_of l.lists))

@@ -1,7 +1,0 @@
-use Rattle.std.proofs.lemmas.List.Sorted.{IsNonDecreasingBy-from_sort_by_key}
-use Rattle.std.proofs.Common.{rules}
-use Rattle.key_laws.specs.Words.{leaf_number}
-use Rattle.iface_keys.proofs.leaves.word_leaves.Goals as goal
-
-pub returns-clause-rising : goal.returns-clause-rising
-returns-clause-rising c = IsNonDecreasingBy-from_sort_by_key leaf_number _ c.sort_unstable_by_key.ensures.sorted (λ a r q k. search rules)

@@ -1,5 +1,0 @@
-use Rattle.std.proofs.Common.{◌≡◌, map, take}
-use Rattle.iface_keys.proofs.places.ordered_words.Given as goal
-
-abbrev pub invariant-loop-word : goal.invariant-loop-word
-invariant-loop-word l = l.places.items ≡ map (λ w. w.1) (take l.word-index l.word-items)

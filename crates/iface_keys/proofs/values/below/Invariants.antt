@@ -1,6 +1,0 @@
-use Rattle.std.proofs.Common.{◌≡◌}
-use Rattle.plain_lists.specs.Lists.{below}
-use Rattle.iface_keys.proofs.values.below.Given as goal
-
-abbrev pub invariant-loop-k : goal.invariant-loop-k
-invariant-loop-k l = l.numbers.items ≡ below l.k

@@ -1,6 +1,0 @@
-use Rattle.std.proofs.Common.{◌≡◌, ◌++◌, map, take}
-use Rattle.mesh_defs.specs.Points.{Sight}
-use Rattle.iface_keys.proofs.values.push_faces.Given as goal
-
-abbrev pub invariant-loop-k : goal.invariant-loop-k
-invariant-loop-k l = l.keys.items ≡ l.initial.keys.items ++ map (λ (s : Sight). s.key) (take l.k l.local.faces)

@@ -1,9 +1,0 @@
-use Rattle.std.proofs.Common.{◌≡◌, map}
-use Rattle.plain_lists.specs.Lists.{below}
-use Rattle.plain_lists.specs.Vectors.{lists_of}
-use Rattle.key_laws.specs.Places.{part_keys}
-use Rattle.key_laws.specs.Words.{part}
-use Rattle.iface_keys.proofs.values.seen_keys.Given as goal
-
-abbrev pub invariant-loop-rank : goal.invariant-loop-rank
-invariant-loop-rank l = lists_of l.keys.items ≡ map (λ r. part_keys (part l.shared r)) (below l.rank)

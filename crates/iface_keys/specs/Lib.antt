@@ -1,1 +1,0 @@
-pub use Rattle.key_laws.specs.Keys

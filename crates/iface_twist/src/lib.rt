@@ -1,6 +1,0 @@
-//! The twist that ranks agree on: the least of their own.
-#![tactic(auto)]
-
-mod twist;
-
-pub use twist::least_twist;

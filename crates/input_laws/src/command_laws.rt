@@ -1,0 +1,1 @@
+//! Laws of the simple command by which the words of a call are read with `clap`.

@@ -1,0 +1,1 @@
+//! Laws of elements that stand at one place: which are kept, and the keys of places.

@@ -1,5 +1,0 @@
-//! Tests of the words of a call: lists that are accepted, and lists that are refused.
-#![tactic(auto)]
-
-#[cfg(test)]
-mod words;

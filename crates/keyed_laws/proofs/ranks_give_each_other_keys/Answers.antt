@@ -1,5 +1,0 @@
-use Rattle.keyed_laws.proofs.Unions.{next-keys}
-use Rattle.keyed_laws.proofs.ranks_give_each_other_keys.Goals as goal
-
-pub returns : goal.returns
-returns c = λ m n a b r dim keys each. next-keys m n a each b r dim keys

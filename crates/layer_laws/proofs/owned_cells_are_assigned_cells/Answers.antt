@@ -1,5 +1,0 @@
-use Rattle.layer_laws.proofs.Shrinking.{owned-cells}
-use Rattle.layer_laws.proofs.owned_cells_are_assigned_cells.Goals as goal
-
-pub returns : goal.returns
-returns c = λ m a r k sound differ. owned-cells m sound differ a r k

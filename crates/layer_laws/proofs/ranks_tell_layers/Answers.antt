@@ -1,6 +1,0 @@
-use Rattle.std.proofs.Common.{add-one}
-use Rattle.layer_laws.proofs.Around.{layer-told}
-use Rattle.layer_laws.proofs.ranks_tell_layers.Goals as goal
-
-pub returns : goal.returns
-returns c = λ m n a r k test sound each. rw (add-one k) (layer-told m n a r k test sound each)

@@ -1,5 +1,0 @@
-//! Tests of leaves that meet.
-#![tactic(auto)]
-
-#[cfg(test)]
-mod meeting;

@@ -1,8 +1,0 @@
-use Rattle.moved_laws.proofs.Places.{is-reordering, same-length}
-use Rattle.moved_laws.proofs.moves_between_charts_reorder.Goals as goal
-
-pub returns-clause-order : goal.returns-clause-order
-returns-clause-order c = is-reordering
-
-pub returns-clause-as_many : goal.returns-clause-as_many
-returns-clause-as_many c = same-length

@@ -1,6 +1,0 @@
-use Rattle.std.proofs.Common.{ℕ, List, length, ap, arith}
-use Rattle.plex_section.proofs.Words.{length-words_by}
-use Rattle.orient_tests.proofs.moves.three_points.Goals as goal
-
-pub returns : goal.returns
-returns c = omega (arith, ap (λ (f : List (List ℕ)). length f) c.new.ensures, length-words_by c.in_ok-section.section c.in_ok-vec.field-0.items, ap (λ (s : List ℕ). length s) c.in_ok-section.ensures)

@@ -1,5 +1,0 @@
-use Rattle.own_field_laws.proofs.Words.{fields-by_part}
-use Rattle.own_field_laws.proofs.fields_are_by_parts.Goals as goal
-
-pub returns : goal.returns
-returns c = λ m dofs a r right counts. fields-by_part m right a r dofs

@@ -1,8 +1,0 @@
-use Rattle.std.proofs.Common.{◌≡◌, ◌++◌, take}
-use Rattle.local_points.specs.Points.{row_at}
-use Rattle.cell_laws.specs.Cells.{places_from}
-use Rattle.part_weights.proofs.places.push_faces.Given as goal
-
--- the faces up to here
-abbrev pub invariant-loop-f : goal.invariant-loop-f
-invariant-loop-f l = l.places.items ≡ l.initial.places.items ++ places_from l.base (take l.f (row_at l.local.face_places l.i))

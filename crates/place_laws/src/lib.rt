@@ -1,2 +1,0 @@
-//! Laws of elements that stand at one place: which are kept, and the keys of places.
-#![tactic(auto)]

@@ -1,5 +1,0 @@
-use Rattle.rank_diagram_laws.proofs.Fitting.{own-twist-by}
-use Rattle.rank_diagram_laws.proofs.own_twist_is_the_first_unrelated_face.Goals as goal
-
-pub returns : goal.returns
-returns c = λ m a r right. own-twist-by m right a r

@@ -1,8 +1,0 @@
-use Rattle.std.proofs.Common.{[], ◌∷◌, ◌++◌, ap, ◌∙◌, append_assoc}
-use Rattle.std.proofs.lemmas.List.{replicate_more}
-use Rattle.rank_fields.specs.Words.{no_words}
-use Rattle.rank_fields.proofs.builder.FieldBuilder.push_empty.Goals as goal
-
-pub loop-point-preserved : goal.loop-point-preserved
-loop-point-preserved c =
-    c.in_ok-push.ensures ∙ ap (λ l. l ++ [] ∷ []) c.loop-point.invariant ∙ append_assoc c.args.self.now (no_words c.loop-point._point) ([] ∷ []) ∙ ap (λ l. c.args.self.now ++ l) (replicate_more c.loop-point._point [])

@@ -1,7 +1,0 @@
-use Rattle.std.proofs.Common.{◌≡◌, ◌++◌}
-use Rattle.rank_fields.specs.Words.{no_words}
-use Rattle.rank_fields.proofs.builder.FieldBuilder.push_empty.Given as goal
-
--- the points up to here
-abbrev pub invariant-loop-point : goal.invariant-loop-point
-invariant-loop-point l = l.self ≡ l.initial.self ++ no_words l._point

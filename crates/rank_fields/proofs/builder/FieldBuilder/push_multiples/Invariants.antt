@@ -1,7 +1,0 @@
-use Rattle.std.proofs.Common.{◌≡◌, ◌++◌, map, take}
-use Rattle.rank_fields.specs.Words.{multiples}
-use Rattle.rank_fields.proofs.builder.FieldBuilder.push_multiples.Given as goal
-
--- the points up to here
-abbrev pub invariant-loop-weight : goal.invariant-loop-weight
-invariant-loop-weight l = l.self ≡ l.initial.self ++ map (multiples l.count) (take l.weight-index l.weights)

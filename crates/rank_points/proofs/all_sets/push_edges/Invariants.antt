@@ -1,6 +1,0 @@
-use Rattle.std.proofs.Common.{◌≡◌, ◌++◌, take}
-use Rattle.rank_points.specs.Seen.{sets_on}
-use Rattle.rank_points.proofs.all_sets.push_edges.Given as goal
-
-abbrev pub invariant-loop-k : goal.invariant-loop-k
-invariant-loop-k l = l.sets ≡ l.fn.sets ++ sets_on (take l.k l.local.edges)

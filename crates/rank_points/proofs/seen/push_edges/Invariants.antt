@@ -1,6 +1,0 @@
-use Rattle.std.proofs.Common.{◌≡◌, ◌++◌, map, take}
-use Rattle.rank_chart_laws.specs.OwnRanks.{set_of}
-use Rattle.rank_points.proofs.seen.push_edges.Given as goal
-
-abbrev pub invariant-loop-k : goal.invariant-loop-k
-invariant-loop-k l = l.sets.items ≡ l.fn.sets.items ++ map set_of (take l.k l.local.edges)

@@ -1,8 +1,0 @@
-use Rattle.std.proofs.Common.{◌≡◌, ◌++◌, take}
-use Rattle.std.specs.Prelude.{codes, flat_map}
-use Rattle.line_defs.specs.Numbers.{fixed_text}
-use Rattle.report_lines.proofs.points.append_at.Given as goal
-
--- the coordinates up to here are appended
-abbrev pub invariant-loop-x : goal.invariant-loop-x
-invariant-loop-x l = l.line.items ≡ l.fn.line.items ++ (codes " @" ++ flat_map (λ x. codes " " ++ fixed_text x) (take l.x-index l.at))

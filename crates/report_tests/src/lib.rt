@@ -1,5 +1,0 @@
-//! Tests of the lines of refusals.
-#![tactic(auto)]
-
-#[cfg(test)]
-mod refusals;

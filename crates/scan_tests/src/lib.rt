@@ -1,7 +1,0 @@
-//! Tests of `scan`: values taken from outside the definitions, and a call of each public function.
-#![tactic(auto)]
-
-#[cfg(test)]
-mod numbers;
-#[cfg(test)]
-mod places;

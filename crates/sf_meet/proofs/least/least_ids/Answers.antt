@@ -1,8 +1,0 @@
-use Rattle.std.proofs.Common.{◌∙◌}
-use Rattle.std.specs.HashMap as hash
-use Rattle.sf_meet.specs.Named.{same_name}
-use Rattle.sf_meet.proofs.Names.{least-more}
-use Rattle.sf_meet.proofs.least.least_ids.Goals as goal
-
-pub loop-s-preserved : goal.loop-s-preserved
-loop-s-preserved c = c.in_ok-push.ensures.items ∙ least-more c.args.roots.now c.args.firsts.now c.args.seconds.now c.args.ids.now c.loop-s.least.items c.loop-s.s c.least_with.result (hash.get same_name c.in_ok-by_name.by_name) c.in_ok-by_name.ensures c.loop-s.invariant c.least_with.ensures

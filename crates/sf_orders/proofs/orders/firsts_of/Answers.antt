@@ -1,7 +1,0 @@
-use Rattle.std.proofs.Common.{sym, arith}
-use Rattle.std.proofs.lemmas.Grind.{common_steps}
-use Rattle.sf_orders.proofs.ByWord.{below-zero}
-use Rattle.sf_orders.proofs.orders.firsts_of.Goals as goal
-
-pub loop-word-init : goal.loop-word-init
-loop-word-init c = record { next = sym (below-zero c.args.places.now); count = grind (arith, common_steps); firsts = λ w h. absurd (omega arith) }

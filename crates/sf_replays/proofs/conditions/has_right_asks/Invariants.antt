@@ -1,6 +1,0 @@
-use Rattle.std.proofs.Common.{◌≡◌, ℕ, ◌<◌, true, length, get_or, []}
-use Rattle.sf_replays.specs.Right.{are_right}
-use Rattle.sf_replays.proofs.conditions.has_right_asks.Given as goal
-
-abbrev pub invariant-loop-rank : goal.invariant-loop-rank
-invariant-loop-rank l = (rank : ℕ) → rank < l.rank → are_right (get_or l.round.asks rank []) (length l.round.before) ≡ true

@@ -1,5 +1,0 @@
-use Rattle.sf_slots.proofs.Consequences.{ones-once}
-use Rattle.sf_slots.proofs.laws.sums_of_one_draw_each_number_once.Goals as goal
-
-pub returns : goal.returns
-returns c = ones-once

@@ -1,6 +1,0 @@
-use Rattle.std.proofs.Common.{◌≡◌, take}
-use Rattle.slot_defs.specs.Slots.{slot_counts}
-use Rattle.sf_slots.proofs.making.slot_counts.Given as goal
-
-abbrev pub invariant-loop-rank : goal.invariant-loop-rank
-invariant-loop-rank l = l.counts.items ≡ take l.rank (slot_counts l.a)

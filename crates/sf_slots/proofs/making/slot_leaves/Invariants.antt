@@ -1,7 +1,0 @@
-use Rattle.std.proofs.Common.{◌≡◌, take}
-use Rattle.sf_defs.specs.Forest.{leaves_on}
-use Rattle.slot_defs.specs.Slots.{slot_leaves}
-use Rattle.sf_slots.proofs.making.slot_leaves.Given as goal
-
-abbrev pub invariant-loop-i : goal.invariant-loop-i
-invariant-loop-i l = l.own.items ≡ take l.i (slot_leaves l.a (leaves_on l.a l.rank) l.drawn)

@@ -1,6 +1,0 @@
-//! Sums over the copies of points that ranks share, by a reduction and a broadcast over their forest.
-#![tactic(auto)]
-
-mod sums;
-
-pub use sums::sum_copies;

@@ -1,0 +1,4 @@
+//! Tests of leaves that meet.
+
+#[cfg(test)]
+mod meeting;

@@ -1,5 +1,0 @@
-use Rattle.share_laws.proofs.Vertices.{shared-vertices}
-use Rattle.share_laws.proofs.shared_points_have_shared_vertices.Goals as goal
-
-pub returns : goal.returns
-returns c = λ m a p v sound h e. shared-vertices m a sound p v h e

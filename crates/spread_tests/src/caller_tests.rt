@@ -1,0 +1,4 @@
+//! Tests of the call that counts cells at vertices.
+
+#[cfg(test)]
+mod counted;

@@ -1,0 +1,4 @@
+//! Tests of the lines of refusals.
+
+#[cfg(test)]
+mod refusals;

@@ -1,9 +1,0 @@
-//! Tests of the crates on a mesh spread over ranks: layouts and fields, what ranks hold, and numbers.
-#![tactic(auto)]
-
-#[cfg(test)]
-mod layouts;
-#[cfg(test)]
-mod spreads;
-#[cfg(test)]
-mod triangles;

@@ -1,8 +1,0 @@
-use Rattle.trace_laws.proofs.Traces.{roots-counted, leaves-traced}
-use Rattle.trace_laws.proofs.leaves_are_owned_points.Goals as goal
-
-pub returns-clause-roots : goal.returns-clause-roots
-returns-clause-roots c = roots-counted
-
-pub returns-clause-leaves : goal.returns-clause-leaves
-returns-clause-leaves c = leaves-traced

@@ -1,9 +1,0 @@
-use Rattle.std.proofs.Common.{take}
-use Rattle.std.specs.List.{AllByRecursion}
-use Rattle.mesh_defs.specs.Mesh.{Section}
-use Rattle.value_words.specs.Rows.{FitsRows}
-use Rattle.value_words.proofs.passing.words_fit.Given as goal
-
--- the sections up to here
-abbrev pub invariant-loop-i : goal.invariant-loop-i
-invariant-loop-i l = AllByRecursion (λ (f : Section). FitsRows f.rows) (take l.i l.mesh.fields)

@@ -1,6 +1,0 @@
-//! Values of data sections and their words of 64 bits.
-#![tactic(auto)]
-
-mod passing;
-
-pub use passing::words_fit;
