@@ -1,7 +1,7 @@
 //! Tokens with their lines, and the numbers and texts that they write, of mesh files.
 //!
 //! A [`Scan`] goes over the bytes of a file once, as a cursor: header lines, the tokens between
-//! them, quoted texts. The definitions of `scan_defs` say what it finds.
+//! them, quoted texts. The definitions of `input_defs::scan_defs` say what it finds.
 #![tactic(auto)]
 
 mod cursor;
