@@ -3,8 +3,9 @@ use mesh_check::element_places::ElementPlaces;
 use mesh_check::element_points::{count_loose, on_points};
 use mesh_check::mesh_vertices::Vertices;
 use msh_reader::{MshText, read_msh};
-use plex_base::Dim;
+use plex_base::{DataField, Dim};
 use std::alloc::Global;
+use std::process::Abort;
 use std::test::Fail;
 
 /// Nodes without order: four at the corners of a square, and one in no cell. Two triangles, the second
@@ -94,35 +95,38 @@ fn vertices_by_number(rt: HostRuntime) -> Result<(), Fail> {
     Ok(())
 }
 
+/// A data section of the file on its mesh.
+fn section_on_mesh(alloc: Global, k: usize) -> Result<DataField, Fail> {
+    let text = content(alloc)?;
+    let places = ElementPlaces::of(alloc, &text)?;
+    let vertices = Vertices::of(alloc, places.text(), places.greatest_dim())?;
+    if k >= places.text().fields() || !needs_element_numbers(places.text()) {
+        return Err(Fail::from("a section is missing"));
+    }
+    let numbers = element_numbers(alloc, places.text())?;
+    let (on, field) = places.text().field(k);
+    Ok(field_on_mesh(alloc, &places, &vertices, &numbers, on, field)?)
+}
+
+/// The last row, of so many, has this number and this value.
+fn check_last_row(rt: &impl Abort, field: &DataField, rows: usize, number: u32, value: i64) {
+    assert_eq!(rt; field.rows(), rows);
+    assert!(rt; rows > 0);
+    let (found, values) = field.row(rows - 1);
+    assert_eq!(rt; found, number);
+    assert_eq!(rt; values, [value].as_slice());
+}
+
 #[test]
 fn rows_of_nodes(rt: HostRuntime) -> Result<(), Fail> {
-    let text = content(rt.alloc())?;
-    let places = ElementPlaces::of(rt.alloc(), &text)?;
-    let vertices = Vertices::of(rt.alloc(), places.text(), places.greatest_dim())?;
-    let numbers = element_numbers(rt.alloc(), places.text())?;
-    assert_eq!(rt; places.text().fields(), 2);
-    let (on, field) = places.text().field(0);
-    let field = field_on_mesh(rt.alloc(), &places, &vertices, &numbers, on, field)?;
-    assert_eq!(rt; field.rows(), 2);
-    let (number, values) = field.row(1);
-    assert_eq!(rt; number, 0);
-    assert_eq!(rt; values, [30_000_000_000].as_slice());
+    let field = section_on_mesh(rt.alloc(), 0)?;
+    check_last_row(&rt, &field, 2, 0, 30_000_000_000);
     Ok(())
 }
 
 #[test]
 fn rows_of_elements(rt: HostRuntime) -> Result<(), Fail> {
-    let text = content(rt.alloc())?;
-    let places = ElementPlaces::of(rt.alloc(), &text)?;
-    let vertices = Vertices::of(rt.alloc(), places.text(), places.greatest_dim())?;
-    assert!(rt; needs_element_numbers(places.text()));
-    let numbers = element_numbers(rt.alloc(), places.text())?;
-    assert_eq!(rt; places.text().fields(), 2);
-    let (on, field) = places.text().field(1);
-    let field = field_on_mesh(rt.alloc(), &places, &vertices, &numbers, on, field)?;
-    assert_eq!(rt; field.rows(), 1);
-    let (number, values) = field.row(0);
-    assert_eq!(rt; number, 1);
-    assert_eq!(rt; values, [40_000_000_000].as_slice());
+    let field = section_on_mesh(rt.alloc(), 1)?;
+    check_last_row(&rt, &field, 1, 1, 40_000_000_000);
     Ok(())
 }

@@ -1,10 +1,10 @@
 use crate::msh_reader_tests::files::{ONE_TRIANGLE, SQUARE_WITH_HOLE, TEMPERATURES, changed, read};
-use msh_reader::Place;
+use msh_reader::{MshText, Place};
+use plex_base::DataField;
+use std::process::Abort;
 use std::test::Fail;
 
-#[test]
-fn one_triangle(rt: HostRuntime) -> Result<(), Fail> {
-    let text = read(rt.alloc(), ONE_TRIANGLE)??;
+fn check_one_triangle(rt: &impl Abort, text: &MshText) {
     assert_eq!(rt; text.nodes(), 3);
     assert_eq!(rt; text.node(1), (2, [10_000_000_000, 0, 0]));
     assert_eq!(rt; text.elements(), 1);
@@ -13,6 +13,12 @@ fn one_triangle(rt: HostRuntime) -> Result<(), Fail> {
     assert_eq!(rt; element.nodes, [1, 2, 3].as_slice());
     assert_eq!(rt; text.names(), 0);
     assert_eq!(rt; text.fields(), 0);
+}
+
+#[test]
+fn one_triangle(rt: HostRuntime) -> Result<(), Fail> {
+    let text = read(rt.alloc(), ONE_TRIANGLE)??;
+    check_one_triangle(&rt, &text);
     Ok(())
 }
 
@@ -38,22 +44,45 @@ fn names_labels_and_lines_that_end_with_cr(rt: HostRuntime) -> Result<(), Fail> 
     Ok(())
 }
 
+/// A row of a data section has this number and these values.
+fn check_row(rt: &impl Abort, field: &DataField, i: usize, number: u32, values: &[i64]) {
+    assert!(rt; i < field.rows());
+    let (found, own) = field.row(i);
+    assert_eq!(rt; found, number);
+    assert_eq!(rt; own, values);
+}
+
+/// The only data section has this place and this name, and so many rows.
+fn check_section(rt: &impl Abort, text: &MshText, place: Place, name: &[u8], rows: usize) {
+    assert_eq!(rt; text.fields(), 1);
+    let (on, field) = text.field(0);
+    assert_eq!(rt; on, place);
+    assert_eq!(rt; field.name(), name, "the first tag is the name");
+    assert_eq!(rt; field.rows(), rows);
+}
+
+fn check_values_at_nodes(rt: &impl Abort, text: &MshText) {
+    check_section(rt, text, Place::Node, b"temp", 2);
+    assert_eq!(rt; text.fields(), 1);
+    let (_, field) = text.field(0);
+    assert_eq!(rt; field.comps(), 1);
+    check_row(rt, field, 0, 1, &[205_000_000_000]);
+    check_row(rt, field, 1, 3, &[-40_000_000_000]);
+}
+
+fn check_values_at_elements(rt: &impl Abort, text: &MshText) {
+    check_section(rt, text, Place::Element, b"first", 1);
+    assert_eq!(rt; text.fields(), 1);
+    let (_, field) = text.field(0);
+    let values = [10_000_000_000, 20_000_000_000, -30_000_000_000];
+    check_row(rt, field, 0, 1, &values);
+}
+
 #[test]
 fn values_at_nodes(rt: HostRuntime) -> Result<(), Fail> {
     let file = format!(in rt.alloc(); "{ONE_TRIANGLE}{TEMPERATURES}")?;
     let text = read(rt.alloc(), file.as_str())??;
-    assert_eq!(rt; text.fields(), 1);
-    let (on, field) = text.field(0);
-    assert_eq!(rt; on, Place::Node);
-    assert_eq!(rt; field.name(), b"temp".as_slice());
-    assert_eq!(rt; field.comps(), 1);
-    assert_eq!(rt; field.rows(), 2);
-    let (number, values) = field.row(0);
-    assert_eq!(rt; number, 1);
-    assert_eq!(rt; values, [205_000_000_000].as_slice());
-    let (number, values) = field.row(1);
-    assert_eq!(rt; number, 3);
-    assert_eq!(rt; values, [-40_000_000_000].as_slice());
+    check_values_at_nodes(&rt, &text);
     Ok(())
 }
 
@@ -63,21 +92,7 @@ fn values_at_elements_and_three_components(rt: HostRuntime) -> Result<(), Fail> 
         "$ElementData\n2\n\"first\"\n\"second\"\n0\n4\n0 3 1 7\n1 1 2 -3\n$EndElementData\n";
     let file = format!(in rt.alloc(); "{ONE_TRIANGLE}{values}")?;
     let text = read(rt.alloc(), file.as_str())??;
-    assert_eq!(rt; text.fields(), 1);
-    let (on, field) = text.field(0);
-    assert_eq!(rt; on, Place::Element);
-    assert_eq!(rt; field.rows(), 1);
-    assert_eq!(rt;
-        field.name(),
-        b"first".as_slice(),
-        "the first tag is the name"
-    );
-    let (number, values) = field.row(0);
-    assert_eq!(rt; number, 1);
-    assert_eq!(rt;
-        values,
-        [10_000_000_000, 20_000_000_000, -30_000_000_000].as_slice()
-    );
+    check_values_at_elements(&rt, &text);
     Ok(())
 }
 
