@@ -15,7 +15,7 @@ use std::test::Fail;
 use std::thread::Threads;
 
 /// The mesh of a file.
-fn mesh_of(alloc: Global, file: &str) -> Result<Mesh, Fail> {
+pub(crate) fn mesh_of(alloc: Global, file: &str) -> Result<Mesh, Fail> {
     if file.len() > 10000 {
         return Err(Fail::from("too long"));
     }
@@ -24,7 +24,7 @@ fn mesh_of(alloc: Global, file: &str) -> Result<Mesh, Fail> {
 }
 
 /// A plan.
-fn plan_of(alloc: Global, text: &str) -> Result<Plan, Fail> {
+pub(crate) fn plan_of(alloc: Global, text: &str) -> Result<Plan, Fail> {
     if text.len() > 1000 {
         return Err(Fail::from("too long"));
     }
@@ -35,17 +35,15 @@ fn plan_of(alloc: Global, text: &str) -> Result<Plan, Fail> {
 pub(crate) fn scatter_over<R: Threads + Sync, F: Fabric>(
     rt: &R,
     alloc: Global,
-    file: &str,
-    plan: &str,
+    mesh: &Mesh,
+    plan: &Plan,
     fabric: &mut F,
 ) -> Result<Result<Scatter, NoMemory>, Fail>
     ensures { IfOk result (λ found. IfOk found (λ s. IsSomeScatter s)) }
 {
-    let mesh = mesh_of(alloc, file)?;
-    let plan = plan_of(alloc, plan)?;
     plan.fits(mesh.cells())
         .map_err(|_| Fail::from("the plan does not fit"))?;
-    Ok(seed(rt, alloc, &mesh, &plan, fabric))
+    Ok(seed(rt, alloc, mesh, plan, fabric))
 }
 
 /// The points of ranks, and which of them are the same, where there is memory.
@@ -58,7 +56,22 @@ pub fn shared_over<R: Threads + Sync, F: Fabric>(
 ) -> Result<Result<Shared, NoMemory>, Fail>
     ensures { IfOk result (λ found. IfOk found (λ s. IsSomeShared s)) }
 {
-    match scatter_over(rt, alloc, file, plan, fabric)? {
+    let mesh = mesh_of(alloc, file)?;
+    let plan = plan_of(alloc, plan)?;
+    shared_of_mesh(rt, alloc, &mesh, &plan, fabric)
+}
+
+/// The same of a mesh that is there.
+pub(crate) fn shared_of_mesh<R: Threads + Sync, F: Fabric>(
+    rt: &R,
+    alloc: Global,
+    mesh: &Mesh,
+    plan: &Plan,
+    fabric: &mut F,
+) -> Result<Result<Shared, NoMemory>, Fail>
+    ensures { IfOk result (λ found. IfOk found (λ s. IsSomeShared s)) }
+{
+    match scatter_over(rt, alloc, mesh, plan, fabric)? {
         Ok(scatter) => Ok(share(rt, alloc, scatter, fabric)),
         Err(NoMemory) => Ok(Err(NoMemory)),
     }

@@ -1,7 +1,6 @@
+use crate::TWO_CUBES;
+use crate::spreads::{mesh_of, plan_of};
 use cells_at_vertices::{OrientFault, VertexCount, VertexCounts, cells_at_vertices};
-use mesh_check::{Mesh, accept};
-use msh_reader::read_msh;
-use plan_reader::{Plan, read_plan};
 use plex_base::PointKey;
 use sf_fabric::Fabric;
 use sf_fabric::script::ScriptFabric;
@@ -15,29 +14,8 @@ use std::thread::Threads;
 const TWO_TRIANGLES: &str =
     "$MeshFormat\n2.2 0 8\n$EndMeshFormat\n$Nodes\n4\n1 0 0 0\n2 1 0 0\n3 0 1 0\n4 1 1 0\n$EndNodes\n$Elements\n2\n1 2 2 0 1 1 2 3\n2 2 2 0 1 2 4 3\n$EndElements\n";
 
-/// Two cubes, one on the other, whose common face the upper one lists across its diagonals.
-const TWISTED_CUBES: &str =
-    "$MeshFormat\n2.2 0 8\n$EndMeshFormat\n$Nodes\n12\n1 0 0 0\n2 1 0 0\n3 1 1 0\n4 0 1 0\n5 0 0 1\n6 1 0 1\n7 1 1 1\n8 0 1 1\n9 0 0 2\n10 1 0 2\n11 1 1 2\n12 0 1 2\n$EndNodes\n$Elements\n2\n1 5 2 0 1 1 2 3 4 5 6 7 8\n2 5 2 0 1 5 7 6 8 9 10 11 12\n$EndElements\n";
-
 /// The first cell on rank 0, the second on rank 1.
 const APART: &str = "ranks 2\npart 0 1\n";
-
-/// The mesh of a file.
-fn mesh_of(alloc: Global, file: &str) -> Result<Mesh, Fail> {
-    if file.len() > 10000 {
-        return Err(Fail::from("too long"));
-    }
-    let text = read_msh(alloc, file.as_bytes()).map_err(|_| Fail::from("the file is refused"))?;
-    accept(alloc, text).map_err(|_| Fail::from("the mesh is refused"))
-}
-
-/// The plan of a text.
-fn plan_of(alloc: Global, text: &str) -> Result<Plan, Fail> {
-    if text.len() > 1000 {
-        return Err(Fail::from("too long"));
-    }
-    read_plan(alloc, text.as_bytes()).map_err(|_| Fail::from("the plan is refused"))
-}
 
 /// The counts of the mesh of a file, or why there are none.
 fn counted<R: Threads + Sync, F: Fabric>(
@@ -64,30 +42,46 @@ fn told(counts: Result<VertexCounts, OrientFault>) -> Result<VertexCounts, Fail>
 }
 
 /// Vertices 1 and 2 are on both ranks, and both cells have them.
-fn check_two_triangles(rt: &impl Abort, counts: &VertexCounts) -> Result<(), Fail> {
+const COUNTS: &[(usize, &[(u64, u64)])] = &[
+    (0, &[(0, 1), (1, 2), (2, 2)]),
+    (1, &[(1, 2), (2, 2), (3, 1)]),
+];
+
+/// These two ranks count so.
+fn check_two_triangles(
+    rt: &impl Abort,
+    counts: &VertexCounts,
+    expected: &[(usize, &[(u64, u64)])],
+) {
     assert_eq!(rt; counts.ranks(), 2);
-    let expected = [[(0, 1), (1, 2), (2, 2)], [(1, 2), (2, 2), (3, 1)]];
-    for (rank, own) in expected.iter().enumerate() {
-        assert!(rt; rank < counts.ranks());
-        assert_eq!(rt; counts.rank(rank).len(), own.len());
-        for (found, (vertex, cells)) in counts.rank(rank).iter().zip(own) {
-            let (vertex, cells) = (*vertex, *cells);
-            assert_eq!(rt; *found, VertexCount { vertex, cells });
-        }
+    for (rank, own) in expected {
+        assert!(rt; *rank < counts.ranks());
+        check_rank(rt, counts.rank(*rank), own);
     }
-    Ok(())
 }
 
-#[test]
-fn triangles_are_counted_by_scripts(rt: HostRuntime) -> Result<(), Fail> {
-    for picks in [
-        [].as_slice(),
-        [1, 1, 1, 1, 0].as_slice(),
-        [0, 1, 0, 1].as_slice(),
-    ] {
-        let mut fabric = ScriptFabric::new(Vec::from_slice(rt.alloc(), picks)?);
-        let counts = told(counted(&rt, rt.alloc(), TWO_TRIANGLES, APART, &mut fabric)?)?;
-        check_two_triangles(&rt, &counts)?;
+/// A rank has these counts of vertices.
+fn check_rank(rt: &impl Abort, found: &[VertexCount], own: &[(u64, u64)]) {
+    assert_eq!(rt; found.len(), own.len());
+    for (found, (vertex, cells)) in found.iter().zip(own) {
+        let (vertex, cells) = (*vertex, *cells);
+        assert_eq!(rt; *found, VertexCount { vertex, cells });
+    }
+}
+
+/// The picks of the scripts.
+const PICKS: &[&[u32]] = &[&[], &[1, 1, 1, 1, 0], &[0, 1, 0, 1]];
+
+/// The two triangles are counted so where scripts make these picks.
+fn check_scripts<R: Threads + Sync + Abort>(
+    rt: &R,
+    alloc: Global,
+    picks: &[&[u32]],
+) -> Result<(), Fail> {
+    for picks in picks {
+        let mut fabric = ScriptFabric::new(Vec::from_slice(alloc, picks)?);
+        let counts = told(counted(rt, alloc, TWO_TRIANGLES, APART, &mut fabric)?)?;
+        check_two_triangles(rt, &counts, COUNTS);
         // The home round alone is kept.
         assert_eq!(rt; fabric.kept().len(), 1);
     }
@@ -95,11 +89,16 @@ fn triangles_are_counted_by_scripts(rt: HostRuntime) -> Result<(), Fail> {
 }
 
 #[test]
+fn triangles_are_counted_by_scripts(rt: HostRuntime) -> Result<(), Fail> {
+    check_scripts(&rt, rt.alloc(), PICKS)
+}
+
+#[test]
 fn triangles_are_counted_by_threads(rt: HostRuntime) -> Result<(), Fail> {
     for _ in 0..20 {
         let mut fabric = ThreadFabric::new(&rt, rt.alloc(), NoGate);
         let counts = told(counted(&rt, rt.alloc(), TWO_TRIANGLES, APART, &mut fabric)?)?;
-        check_two_triangles(&rt, &counts)?;
+        check_two_triangles(&rt, &counts, COUNTS);
     }
     Ok(())
 }
@@ -124,7 +123,7 @@ fn a_rank_without_cells_has_no_vertices(rt: HostRuntime) -> Result<(), Fail> {
 #[test]
 fn a_twist_is_told(rt: HostRuntime) -> Result<(), Fail> {
     let mut fabric = ScriptFabric::new(Vec::new(rt.alloc()));
-    match counted(&rt, rt.alloc(), TWISTED_CUBES, APART, &mut fabric)? {
+    match counted(&rt, rt.alloc(), TWO_CUBES, APART, &mut fabric)? {
         // Face 0 of cell 1.
         Err(OrientFault::Twist(key)) => assert_eq!(rt; key, PointKey::of_face(1, 0)),
         Err(OrientFault::NoMemory) => return Err(Fail::from("no memory")),

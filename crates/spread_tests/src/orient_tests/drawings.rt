@@ -35,9 +35,21 @@ fn told<F: Fabric>(alloc: Global, shared: &Shared, fabric: &mut F) -> Result<Tol
     Ok((keys, all))
 }
 
-/// The ends of an edge, filled up.
-fn ends(from: u32, to: u32) -> [u32; 4] {
-    [from, to, 4294967295, 4294967295]
+/// Fills up the ends of an edge.
+const NONE: u32 = 4294967295;
+
+/// How the two ranks see the edges of the two triangles.
+const SEEN: &[&[[u32; 4]]] = &[
+    &[[1, 3, NONE, NONE], [3, 2, NONE, NONE], [1, 2, NONE, NONE]],
+    &[[0, 1, NONE, NONE], [1, 2, NONE, NONE], [2, 0, NONE, NONE]],
+];
+
+/// The ranks have these arrangements.
+fn check_seen(rt: &impl Abort, all: &[Vec<[u32; 4]>], seen: &[&[[u32; 4]]]) {
+    assert_eq!(rt; all.len(), seen.len());
+    for (own, expected) in all.iter().zip(seen) {
+        assert_eq!(rt; own.as_slice(), *expected);
+    }
 }
 
 #[test]
@@ -45,17 +57,7 @@ fn edges_are_seen_as_by_the_first_cell(rt: HostRuntime) -> Result<(), Fail> {
     let shared = shared_of(&rt, rt.alloc(), TWO_TRIANGLES, SECOND_FIRST)?;
     let mut fabric = ScriptFabric::new(Vec::new(rt.alloc()));
     let (_keys, all) = told(rt.alloc(), &shared, &mut fabric)?;
-    let [first, second] = all.as_slice() else {
-        return Err(Fail::from("not two ranks"));
-    };
-    assert_eq!(rt;
-        first.as_slice(),
-        [ends(1, 3), ends(3, 2), ends(1, 2)].as_slice()
-    );
-    assert_eq!(rt;
-        second.as_slice(),
-        [ends(0, 1), ends(1, 2), ends(2, 0)].as_slice()
-    );
+    check_seen(&rt, all.as_slice(), SEEN);
     check_alone(&rt, fabric.kept(), &SHARED_EDGE)
 }
 
@@ -72,17 +74,25 @@ fn drawings_of<R: Threads + Sync>(
     Ok(draw_all(rt, alloc, &shared, &keys, all)?)
 }
 
+/// Edges: the place of each among the edges of a rank, its key and its ends.
+type Edges<'a> = &'a [(u32, u64, [u32; 2])];
+
+const FIRST_EDGES: Edges<'static> = &[(0, 9, [1, 2]), (1, 72, [1, 3]), (2, 73, [3, 2])];
+
+const SECOND_EDGES: Edges<'static> = &[(0, 8, [0, 1]), (1, 9, [1, 2]), (2, 10, [2, 0])];
+
 /// A rank of the two triangles holds these edges, by key, and draws what it is to hold.
 fn check_drawing(
     rt: &impl Abort,
     drawing: &Drawing,
-    edges: [(u64, [u32; 2]); 3],
+    edges: Edges,
     held: &Held,
 ) -> Result<(), Fail> {
     let points = drawing.held();
     assert_eq!(rt; (points.faces(), points.edges()), (0, 3));
-    for (k, (key, ends)) in edges.iter().enumerate() {
-        assert_eq!(rt; points.edge(k as u32), (PointKey(*key), *ends));
+    for (k, key, ends) in edges {
+        assert!(rt; *k < points.edges());
+        assert_eq!(rt; points.edge(*k), (PointKey(*key), *ends));
     }
     match drawing.drawn() {
         Drawn::Whole(plex) => check_plex(rt, plex, held),
@@ -97,18 +107,8 @@ fn ranks_draw_their_triangles(rt: HostRuntime) -> Result<(), Fail> {
     let [first, second] = drawings.as_slice() else {
         return Err(Fail::from("not two ranks"));
     };
-    check_drawing(
-        &rt,
-        first,
-        [(9, [1, 2]), (72, [1, 3]), (73, [3, 2])],
-        &FIRST,
-    )?;
-    check_drawing(
-        &rt,
-        second,
-        [(8, [0, 1]), (9, [1, 2]), (10, [2, 0])],
-        &SECOND,
-    )
+    check_drawing(&rt, first, FIRST_EDGES, &FIRST)?;
+    check_drawing(&rt, second, SECOND_EDGES, &SECOND)
 }
 
 /// The lower cube gives the key of the common face and sees it; the upper one sees it under no orientation.

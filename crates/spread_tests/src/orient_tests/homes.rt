@@ -1,5 +1,5 @@
 //! What home rounds of two ranks say.
-use sf_fabric::{Op, Round, Tag};
+use sf_fabric::{Ask, Op, Round, Tag};
 use std::process::Abort;
 use std::test::Fail;
 
@@ -17,15 +17,18 @@ pub(crate) fn check_home(rt: &impl Abort, round: &Round, home: &Home) -> Result<
     assert_eq!(rt; (round.tag(), round.ranks()), (Tag::Home, 2));
     assert_eq!(rt; round.before(), home.before);
     assert_eq!(rt; round.after(), home.after);
-    assert_eq!(rt;
-        (round.asks(0).len(), round.asks(1).len()),
-        (0, home.asked.len())
-    );
-    for (word, ask) in round.asks(1).iter().enumerate() {
-        assert_eq!(rt; (ask.word as usize, ask.op), (word, Op::Min));
-        assert_eq!(rt; ask.value, home.asked[word]);
-    }
+    assert_eq!(rt; round.asks(0).len(), 0);
+    check_asks(rt, round.asks(1), home.asked);
     Ok(())
+}
+
+/// The least of each word is asked, with these keys.
+fn check_asks(rt: &impl Abort, asks: &[Ask], keys: &[u64]) {
+    assert_eq!(rt; asks.len(), keys.len());
+    for (word, (ask, key)) in asks.iter().zip(keys).enumerate() {
+        assert_eq!(rt; (ask.word as usize, ask.op), (word, Op::Min));
+        assert_eq!(rt; ask.value, *key);
+    }
 }
 
 /// The home round is kept, and no other round is.

@@ -5,6 +5,7 @@ use plex_base::NoMemory;
 use sf_fabric::Tag;
 use sf_fabric::script::ScriptFabric;
 use sf_tests::RefusingFabric;
+use std::process::Abort;
 use std::test::Fail;
 
 /// The first triangle on rank 1, the others on rank 0.
@@ -17,19 +18,26 @@ const HOME: Home = Home {
     after: &[10, 9],
 };
 
+/// The keys of both ranks, by place.
+const KEYS: &[&[u64]] = &[
+    &[64, 128, 0, 1, 2, 3, 4, 10, 73, 74, 9, 137, 138],
+    &[0, 0, 1, 2, 8, 9, 10],
+];
+
+/// The ranks have these keys.
+fn check_keys(rt: &impl Abort, keys: &[Vec<u64>], expected: &[&[u64]]) {
+    assert_eq!(rt; keys.len(), expected.len());
+    for (own, expected) in keys.iter().zip(expected) {
+        assert_eq!(rt; own.as_slice(), *expected);
+    }
+}
+
 #[test]
 fn keys_are_the_least_of_all_ranks(rt: HostRuntime) -> Result<(), Fail> {
     let shared = shared_of(&rt, rt.alloc(), THREE_TRIANGLES, APART)?;
     let mut fabric = ScriptFabric::new(Vec::new(rt.alloc()));
     let (keys, round) = home_keys(rt.alloc(), &shared, &mut fabric)?;
-    let [first, second] = keys.as_slice() else {
-        return Err(Fail::from("not two ranks"));
-    };
-    assert_eq!(rt;
-        first.as_slice(),
-        [64, 128, 0, 1, 2, 3, 4, 10, 73, 74, 9, 137, 138].as_slice()
-    );
-    assert_eq!(rt; second.as_slice(), [0, 0, 1, 2, 8, 9, 10].as_slice());
+    check_keys(&rt, keys.as_slice(), KEYS);
     check_home(&rt, &round, &HOME)?;
     check_alone(&rt, fabric.kept(), &HOME)
 }

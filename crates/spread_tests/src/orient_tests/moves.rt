@@ -8,19 +8,33 @@ use plex_label::Label;
 use plex_section::{Field, Section};
 use sf_graph::{Forest, Leaf};
 use std::alloc::Global;
+use std::process::Abort;
 use std::test::Fail;
 
-#[test]
-fn values_go_with_their_points(rt: HostRuntime) -> Result<(), Fail> {
-    let mut label = Label::new(rt.alloc());
+/// The values 5 and -2 of point 0 and 7 of point 2 after the points moved.
+fn moved_values(alloc: Global) -> Result<Label, Fail> {
+    let mut label = Label::new(alloc);
     label.add(0, 5)?;
     label.add(0, -2)?;
     label.add(2, 7)?;
-    let moved = moved_label(rt.alloc(), &label, &[1, 2, 0])?;
-    assert_eq!(rt; moved.values_at(0)?.as_slice(), [7].as_slice());
-    assert_eq!(rt; moved.values_at(1)?.as_slice(), [-2, 5].as_slice());
-    assert_eq!(rt; moved.values_at(2)?.len(), 0);
+    Ok(moved_label(alloc, &label, &[1, 2, 0])?)
+}
+
+/// Points with their values.
+const VALUES: &[(u32, &[i32])] = &[(0, &[7]), (1, &[-2, 5]), (2, &[])];
+
+/// The points have these values.
+fn check_values(rt: &impl Abort, label: &Label, values: &[(u32, &[i32])]) -> Result<(), Fail> {
+    for (p, own) in values {
+        assert_eq!(rt; label.values_at(*p)?.as_slice(), *own);
+    }
     Ok(())
+}
+
+#[test]
+fn values_go_with_their_points(rt: HostRuntime) -> Result<(), Fail> {
+    let moved = moved_values(rt.alloc())?;
+    check_values(&rt, &moved, VALUES)
 }
 
 /// Three points with one word, none and two.
@@ -39,12 +53,23 @@ fn moved_words(alloc: Global) -> Result<Field, Fail>
     Ok(moved_field(alloc, &field, &[1, 2, 0])?)
 }
 
+/// Points with their words.
+const WORDS: &[(u32, &[u64])] = &[(0, &[8, 9]), (1, &[7]), (2, &[])];
+
+/// The points have these words.
+fn check_words(rt: &impl Abort, field: &Field, words: &[(u32, &[u64])])
+    requires { length field.now ≡ 3 }
+{
+    for (p, own) in words {
+        assert!(rt; *p < 3);
+        assert_eq!(rt; field.at(*p), *own);
+    }
+}
+
 #[test]
 fn words_go_with_their_points(rt: HostRuntime) -> Result<(), Fail> {
     let moved = moved_words(rt.alloc())?;
-    assert_eq!(rt; moved.at(0), [8u64, 9].as_slice());
-    assert_eq!(rt; moved.at(1), [7u64].as_slice());
-    assert_eq!(rt; moved.at(2), [].as_slice());
+    check_words(&rt, &moved, WORDS);
     Ok(())
 }
 

@@ -3,34 +3,55 @@ use crate::orient_tests::held::{FIRST, SECOND};
 use crate::orient_tests::homes::{Home, check_alone, check_home};
 use crate::orient_tests::meshes::{SECOND_FIRST, SHARED_EDGE, TWO_TRIANGLES};
 use crate::orient_tests::readers::check_rank;
+use crate::seeds::PICKS;
 use crate::{TWO_CUBES, shared_of, shared_over};
-use dist_state::Dist;
 use orient_iface::{OrientFault, orient};
 use plex_base::PointKey;
 use sf_fabric::script::ScriptFabric;
 use sf_fabric::{Fabric, Round};
-use sf_graph::Leaf;
+use sf_graph::{Forest, Leaf};
 use sf_threads::{NoGate, ThreadFabric};
 use std::alloc::Global;
 use std::process::Abort;
 use std::test::Fail;
 use std::thread::Threads;
 
-/// Rank 1 has copies of v1, v2 and e9.
-fn check_points(rt: &impl Abort, d: &Dist) {
-    let points = d.points();
-    assert_eq!(rt; points.ranks(), 2);
-    assert_eq!(rt; (points.roots(0), points.roots(1)), (7, 7));
-    assert_eq!(rt; (points.leaf_count(0), points.leaf_count(1)), (0, 3));
-    for (i, (local, index)) in [(2, 1), (3, 2), (5, 4)].iter().enumerate() {
-        let leaf = Leaf {
-            local: *local,
-            rank: 0,
-            index: *index,
-        };
-        assert_eq!(rt; points.leaf(1, i as u32), leaf);
-        assert_eq!(rt; points.root_of(1, *local), Some((0, *index)));
+/// Copies of v1, v2 and e9: the number of each among the leaves of rank 1, its place there, and its place on
+/// rank 0.
+const COPIES: &[(u32, u32, u32)] = &[(0, 2, 1), (1, 3, 2), (2, 5, 4)];
+
+/// Ranks with how many points and copies they have.
+const SIZES: &[(u32, u32, u32)] = &[(0, 7, 0), (1, 7, 3)];
+
+/// The ranks have so many points and copies.
+fn check_sizes(rt: &impl Abort, points: &Forest, sizes: &[(u32, u32, u32)]) {
+    for (rank, roots, leaves) in sizes {
+        assert!(rt; *rank < points.ranks());
+        assert_eq!(rt; points.roots(*rank), *roots);
+        assert_eq!(rt; points.leaf_count(*rank), *leaves);
     }
+}
+
+/// There are two ranks of that size, and the second one has these copies of points of the first one.
+fn check_points(rt: &impl Abort, points: &Forest, copies: &[(u32, u32, u32)]) {
+    assert_eq!(rt; points.ranks(), 2);
+    check_sizes(rt, points, SIZES);
+    for (i, local, index) in copies {
+        check_copy(rt, points, *i, *local, *index);
+    }
+}
+
+/// A leaf of rank 1 is this copy of a point of rank 0.
+fn check_copy(rt: &impl Abort, points: &Forest, i: u32, local: u32, index: u32) {
+    assert!(rt; 1 < points.ranks());
+    assert!(rt; i < points.leaf_count(1));
+    let leaf = Leaf {
+        local,
+        rank: 0,
+        index,
+    };
+    assert_eq!(rt; points.leaf(1, i), leaf);
+    assert_eq!(rt; points.root_of(1, local), Some((0, index)));
 }
 
 /// Why there is no distributed mesh.
@@ -51,20 +72,27 @@ fn check_orient<R: Threads + Sync + Abort, F: Fabric>(
     let (dist, round) = orient(rt, alloc, shared, fabric).map_err(fail_of)?;
     assert_eq!(rt; (dist.ranks(), dist.cells()), (2, 2));
     assert_eq!(rt; (dist.overlap(), dist.sections()), (0, 2));
-    check_points(rt, &dist);
+    check_points(rt, dist.points(), COPIES);
     check_rank(rt, dist.local(0), &FIRST)?;
     check_rank(rt, dist.local(1), &SECOND)?;
     check_home(rt, &round, &SHARED_EDGE)
 }
 
+/// The two triangles are spread as by hand where a script makes these picks.
+fn check_script<R: Threads + Sync + Abort>(
+    rt: &R,
+    alloc: Global,
+    picks: &[u32],
+) -> Result<(), Fail> {
+    let mut fabric = ScriptFabric::new(Vec::from_slice(alloc, picks)?);
+    check_orient(rt, alloc, &mut fabric)?;
+    check_alone(rt, fabric.kept(), &SHARED_EDGE)
+}
+
 #[test]
 fn two_triangles_in_any_order(rt: HostRuntime) -> Result<(), Fail> {
-    for picks in [[].as_slice(), [1, 1, 1, 0, 0].as_slice()] {
-        let mut fabric = ScriptFabric::new(Vec::from_slice(rt.alloc(), picks)?);
-        check_orient(&rt, rt.alloc(), &mut fabric)?;
-        check_alone(&rt, fabric.kept(), &SHARED_EDGE)?;
-    }
-    Ok(())
+    check_script(&rt, rt.alloc(), &[])?;
+    check_script(&rt, rt.alloc(), PICKS)
 }
 
 #[test]

@@ -21,16 +21,19 @@ pub(crate) fn check_rank(rt: &impl Abort, local: &RankMesh, held: &Held) -> Resu
 
 /// A diagram is that of what the rank is to hold.
 pub(crate) fn check_plex(rt: &impl Abort, plex: &Plex, held: &Held) {
-    check_strata(rt, plex);
+    check_strata(rt, plex, STRATA);
     check_cones(rt, plex, held);
 }
 
 /// The cell stands before the vertices, and the edges behind them.
-fn check_strata(rt: &impl Abort, plex: &Plex) {
+const STRATA: &[(Dim, u32, u32)] = &[(Dim::Two, 0, 1), (Dim::Zero, 1, 4), (Dim::One, 4, 7)];
+
+/// The points stand in these strata, and have their polytopes.
+fn check_strata(rt: &impl Abort, plex: &Plex, strata: &[(Dim, u32, u32)]) {
     assert_eq!(rt; (plex.dim(), plex.chart()), (Dim::Two, 7));
-    for (dim, start, end) in [(Dim::Two, 0, 1), (Dim::Zero, 1, 4), (Dim::One, 4, 7)] {
-        let stratum = plex.stratum(dim);
-        assert_eq!(rt; (stratum.start, stratum.end), (start, end));
+    for (dim, start, end) in strata {
+        let stratum = plex.stratum(*dim);
+        assert_eq!(rt; (stratum.start, stratum.end), (*start, *end));
     }
     assert_eq!(rt; plex.poly_of(0), Poly::Triangle);
     for p in 1..4 {

@@ -5,6 +5,8 @@ use plex_chart::{ConeEntry, Plex};
 use plex_walk::{closure, star, supports};
 use poly_orient::orientations;
 use std::alloc::Global;
+use std::process::Abort;
+use std::test::Fail;
 
 /// The closure of a point, and none where there is no such point or it has no such orientation.
 pub fn closure_of(
@@ -24,6 +26,14 @@ pub fn closure_of(
         return Ok(None);
     }
     Ok(Some(closure(alloc, x, p, o)?))
+}
+
+/// The closure of a point under an orientation, as it is to be.
+#[derive(Clone, Copy, Debug)]
+pub struct Closure<'a> {
+    pub point: u32,
+    pub o: i8,
+    pub entries: &'a [(u32, i8)],
 }
 
 /// Whether the closure has these entries, in this order.
@@ -63,4 +73,43 @@ pub fn has_support(alloc: Global, x: &Plex, p: u32, points: &[u32]) -> Result<bo
         return Ok(false);
     }
     Ok(lists.of(p) == points)
+}
+
+/// The diagram has these closures.
+pub fn check_closures(
+    rt: &impl Abort,
+    alloc: Global,
+    x: &Plex,
+    rows: &[Closure],
+) -> Result<(), Fail> {
+    for row in rows {
+        assert!(rt; has_closure(alloc, x, row.point, row.o, row.entries)?);
+    }
+    Ok(())
+}
+
+/// These points have these supports.
+pub fn check_supports(
+    rt: &impl Abort,
+    alloc: Global,
+    x: &Plex,
+    rows: &[(u32, &[u32])],
+) -> Result<(), Fail> {
+    for (p, points) in rows {
+        assert!(rt; has_support(alloc, x, *p, points)?);
+    }
+    Ok(())
+}
+
+/// These points have these stars.
+pub fn check_stars(
+    rt: &impl Abort,
+    alloc: Global,
+    x: &Plex,
+    rows: &[(u32, &[u32])],
+) -> Result<(), Fail> {
+    for (p, points) in rows {
+        assert!(rt; has_star(alloc, x, *p, points)?);
+    }
+    Ok(())
 }

@@ -1,6 +1,6 @@
 ghost use Rattle.std.specs.Prelude.{◌≡◌};
 
-use crate::walk_tests::calls::{has_closure, has_star, has_support};
+use crate::walk_tests::calls::{Closure, check_closures, check_stars, check_supports};
 use mesh_defs::Poly;
 use plex_base::{Dim, NoMemory};
 use plex_chart::{ConeEntry, Plex, PlexBuilder};
@@ -30,41 +30,34 @@ fn two_triangles(alloc: Global) -> Result<Plex, NoMemory> {
     builder.finish()
 }
 
+/// Points with their supports.
+const SUPPORTS: &[(u32, &[u32])] = &[(7, &[0, 1]), (3, &[6, 7, 9]), (0, &[])];
+
+/// Points with their stars.
+const STARS: &[(u32, &[u32])] = &[(3, &[0, 1, 3, 6, 7, 9]), (1, &[1])];
+
+const CLOSURES: &[Closure] = &[
+    Closure {
+        point: 1,
+        o: -1,
+        entries: &[(1, -1), (7, 0), (10, -1), (9, -1), (3, 0), (4, 0), (5, 0)],
+    },
+    Closure {
+        point: 0,
+        o: 0,
+        entries: &[(0, 0), (6, 0), (7, 0), (8, 0), (2, 0), (3, 0), (4, 0)],
+    },
+    Closure {
+        point: 1,
+        o: 0,
+        entries: &[(1, 0), (9, 0), (10, 0), (7, -1), (3, 0), (5, 0), (4, 0)],
+    },
+];
+
 #[test]
 fn walks_over_two_triangles(rt: HostRuntime) -> Result<(), Fail> {
-    let alloc = rt.alloc();
-    let x = two_triangles(alloc)?;
-    assert!(rt; has_support(alloc, &x, 7, &[0, 1])?);
-    assert!(rt; has_support(alloc, &x, 3, &[6, 7, 9])?);
-    assert!(rt; has_support(alloc, &x, 0, &[])?);
-    assert!(rt; has_star(alloc, &x, 3, &[0, 1, 3, 6, 7, 9])?);
-    assert!(rt; has_star(alloc, &x, 1, &[1])?);
-    assert!(rt;
-        has_closure(
-            alloc,
-            &x,
-            1,
-            -1,
-            &[(1, -1), (7, 0), (10, -1), (9, -1), (3, 0), (4, 0), (5, 0)]
-        )?
-    );
-    assert!(rt;
-        has_closure(
-            alloc,
-            &x,
-            0,
-            0,
-            &[(0, 0), (6, 0), (7, 0), (8, 0), (2, 0), (3, 0), (4, 0)]
-        )?
-    );
-    assert!(rt;
-        has_closure(
-            alloc,
-            &x,
-            1,
-            0,
-            &[(1, 0), (9, 0), (10, 0), (7, -1), (3, 0), (5, 0), (4, 0)]
-        )?
-    );
-    Ok(())
+    let x = two_triangles(rt.alloc())?;
+    check_supports(&rt, rt.alloc(), &x, SUPPORTS)?;
+    check_stars(&rt, rt.alloc(), &x, STARS)?;
+    check_closures(&rt, rt.alloc(), &x, CLOSURES)
 }
