@@ -1,7 +1,7 @@
 //! Mesh files of the tests, and the texts of their diagrams. The texts were worked out by hand or by another program.
 
 /// One triangle, line by line.
-pub(crate) const ONE_TRIANGLE: [&str; 13] = [
+pub(crate) const ONE_TRIANGLE: &[&str] = &[
     "$MeshFormat",
     "2.2 0 8",
     "$EndMeshFormat",
@@ -68,9 +68,7 @@ P 10 e73 5:0 4:0
 end
 ";
 
-/// The triangle is there twice, in two physical groups.
-pub(crate) const MERGED: [&str; 2] = ["2", "1 2 2 5 1 1 2 3\n2 2 2 6 1 2 3 1"];
-
+/// Of a triangle that is there twice.
 pub(crate) const MERGED_TEXT: &str = "mesh dim 2 cells 1 vertices 3 unused 0 loose 0 merged 1
 ranks 1
 step 0 part

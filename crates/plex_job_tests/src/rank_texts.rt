@@ -160,3 +160,75 @@ ghost 3 2 2
 total 17 cells 4 vertices 5 faces 0 edges 8
 end
 ";
+
+/// One triangle on the last of 64 ranks.
+pub(crate) const LAST_OF_SIXTY_FOUR: &str = "mesh dim 2 cells 1 vertices 3 unused 0 loose 0 merged 0
+ranks 64
+step 0 part
+rank 0 cells 0 held 0 owned 0 base 0
+rank 1 cells 0 held 0 owned 0 base 0
+rank 2 cells 0 held 0 owned 0 base 0
+rank 3 cells 0 held 0 owned 0 base 0
+rank 4 cells 0 held 0 owned 0 base 0
+rank 5 cells 0 held 0 owned 0 base 0
+rank 6 cells 0 held 0 owned 0 base 0
+rank 7 cells 0 held 0 owned 0 base 0
+rank 8 cells 0 held 0 owned 0 base 0
+rank 9 cells 0 held 0 owned 0 base 0
+rank 10 cells 0 held 0 owned 0 base 0
+rank 11 cells 0 held 0 owned 0 base 0
+rank 12 cells 0 held 0 owned 0 base 0
+rank 13 cells 0 held 0 owned 0 base 0
+rank 14 cells 0 held 0 owned 0 base 0
+rank 15 cells 0 held 0 owned 0 base 0
+rank 16 cells 0 held 0 owned 0 base 0
+rank 17 cells 0 held 0 owned 0 base 0
+rank 18 cells 0 held 0 owned 0 base 0
+rank 19 cells 0 held 0 owned 0 base 0
+rank 20 cells 0 held 0 owned 0 base 0
+rank 21 cells 0 held 0 owned 0 base 0
+rank 22 cells 0 held 0 owned 0 base 0
+rank 23 cells 0 held 0 owned 0 base 0
+rank 24 cells 0 held 0 owned 0 base 0
+rank 25 cells 0 held 0 owned 0 base 0
+rank 26 cells 0 held 0 owned 0 base 0
+rank 27 cells 0 held 0 owned 0 base 0
+rank 28 cells 0 held 0 owned 0 base 0
+rank 29 cells 0 held 0 owned 0 base 0
+rank 30 cells 0 held 0 owned 0 base 0
+rank 31 cells 0 held 0 owned 0 base 0
+rank 32 cells 0 held 0 owned 0 base 0
+rank 33 cells 0 held 0 owned 0 base 0
+rank 34 cells 0 held 0 owned 0 base 0
+rank 35 cells 0 held 0 owned 0 base 0
+rank 36 cells 0 held 0 owned 0 base 0
+rank 37 cells 0 held 0 owned 0 base 0
+rank 38 cells 0 held 0 owned 0 base 0
+rank 39 cells 0 held 0 owned 0 base 0
+rank 40 cells 0 held 0 owned 0 base 0
+rank 41 cells 0 held 0 owned 0 base 0
+rank 42 cells 0 held 0 owned 0 base 0
+rank 43 cells 0 held 0 owned 0 base 0
+rank 44 cells 0 held 0 owned 0 base 0
+rank 45 cells 0 held 0 owned 0 base 0
+rank 46 cells 0 held 0 owned 0 base 0
+rank 47 cells 0 held 0 owned 0 base 0
+rank 48 cells 0 held 0 owned 0 base 0
+rank 49 cells 0 held 0 owned 0 base 0
+rank 50 cells 0 held 0 owned 0 base 0
+rank 51 cells 0 held 0 owned 0 base 0
+rank 52 cells 0 held 0 owned 0 base 0
+rank 53 cells 0 held 0 owned 0 base 0
+rank 54 cells 0 held 0 owned 0 base 0
+rank 55 cells 0 held 0 owned 0 base 0
+rank 56 cells 0 held 0 owned 0 base 0
+rank 57 cells 0 held 0 owned 0 base 0
+rank 58 cells 0 held 0 owned 0 base 0
+rank 59 cells 0 held 0 owned 0 base 0
+rank 60 cells 0 held 0 owned 0 base 0
+rank 61 cells 0 held 0 owned 0 base 0
+rank 62 cells 0 held 0 owned 0 base 0
+rank 63 cells 1 held 7 owned 7 base 0
+total 7 cells 1 vertices 3 faces 0 edges 3
+end
+";
