@@ -20,24 +20,31 @@ fn script(alloc: Global, picks: &str) -> Result<ScriptFabric, Fail> {
     Ok(ScriptFabric::new(ranks))
 }
 
+/// A forest, the picks of a script, and the forest of slots that its leaves then draw.
+const DRAWN: &[(&str, &str, &str)] = &[
+    (THREE_LEAVES, "101", "3 0-0.1 / 0 0-0.0 1-0.2"),
+    (THREE_LEAVES, "0", "3 0-0.0 / 0 0-0.1 1-0.2"),
+    (THREE_LEAVES, "110", "3 0-0.2 / 0 0-0.0 1-0.1"),
+    (OWN_ROOTS, "", "3 0-0.1 1-0.0 / 1 3-0.2 0-1.0 / 0"),
+    (OWN_ROOTS, "1", "3 0-0.2 1-0.0 / 1 3-0.1 0-1.0 / 0"),
+    ("3 / 0 / 4 7-0.2 2-2.3", "210", "1 / 0 / 1 7-0.0 2-2.0"),
+    ("0 / 2", "", "0 / 0"),
+];
+
+/// The slots of a forest by these picks, and the fabric after they were drawn.
+fn draw(alloc: Global, a: &Forest, picks: &str) -> Result<(SlotForest, ScriptFabric), Fail> {
+    let mut fabric = script(alloc, picks)?;
+    let slots = multi(alloc, a, &mut fabric)?;
+    Ok((slots, fabric))
+}
+
 #[test]
 fn leaves_draw_slots_in_the_order_of_the_script(rt: HostRuntime) -> Result<(), Fail> {
-    for (forest, picks, slots) in [
-        (THREE_LEAVES, "101", "3 0-0.1 / 0 0-0.0 1-0.2"),
-        (THREE_LEAVES, "0", "3 0-0.0 / 0 0-0.1 1-0.2"),
-        (THREE_LEAVES, "110", "3 0-0.2 / 0 0-0.0 1-0.1"),
-        (OWN_ROOTS, "", "3 0-0.1 1-0.0 / 1 3-0.2 0-1.0 / 0"),
-        (OWN_ROOTS, "1", "3 0-0.2 1-0.0 / 1 3-0.1 0-1.0 / 0"),
-        ("3 / 0 / 4 7-0.2 2-2.3", "210", "1 / 0 / 1 7-0.0 2-2.0"),
-        ("0 / 2", "", "0 / 0"),
-    ] {
+    for (forest, picks, slots) in DRAWN {
         let a = forest_of(rt.alloc(), forest)?;
-        let slot_forest = multi(rt.alloc(), &a, &mut script(rt.alloc(), picks)?)?;
-        assert_eq!(rt;
-            text_of(rt.alloc(), slot_forest.forest())?.as_str(),
-            slots,
-            "{forest} by {picks}"
-        );
+        let (drawn, _) = draw(rt.alloc(), &a, picks)?;
+        let text = text_of(rt.alloc(), drawn.forest())?;
+        assert_eq!(rt; text.as_str(), *slots, "{forest} by {picks}");
     }
     Ok(())
 }
@@ -46,44 +53,46 @@ fn leaves_draw_slots_in_the_order_of_the_script(rt: HostRuntime) -> Result<(), F
 /// of the slots were scattered.
 fn there_and_back(
     alloc: Global,
-    slots: &SlotForest,
+    a: &Forest,
+    picks: &str,
     words: &str,
-    fabric: &mut ScriptFabric,
 ) -> Result<(String, String), Fail> {
+    let (slots, mut fabric) = draw(alloc, a, picks)?;
     let leaves = leaf_words(alloc, slots.forest(), words)?;
-    let gathered = gather(alloc, slots, &leaves, fabric)?;
+    let gathered = gather(alloc, &slots, &leaves, &mut fabric)?;
     let mut back = leaf_words(alloc, slots.forest(), "")?;
-    scatter(alloc, slots, &gathered, &mut back, fabric)?;
+    scatter(alloc, &slots, &gathered, &mut back, &mut fabric)?;
     Ok((words_text(alloc, &gathered)?, words_text(alloc, &back)?))
 }
 
+/// A forest, picks, the words of its leaves, those of the slots, and those of the leaves again.
+const MOVED: &[(&str, &str, &str, &str, &str)] = &[
+    (THREE_LEAVES, "101", "5 / 7 8", " 7 5 8 /", " 5 / 7 8"),
+    (THREE_LEAVES, "0", "5 / 7 8", " 5 7 8 /", " 5 / 7 8"),
+    (THREE_LEAVES, "110", "5 / 7 8", " 7 8 5 /", " 5 / 7 8"),
+    (
+        OWN_ROOTS,
+        "",
+        "5 6 / 7 1 1 8 /",
+        " 6 5 8 / 7 /",
+        " 5 6 / 7 9 9 8 /",
+    ),
+    (
+        OWN_ROOTS,
+        "1",
+        "5 6 / 7 1 1 8 /",
+        " 6 8 5 / 7 /",
+        " 5 6 / 7 9 9 8 /",
+    ),
+];
+
 #[test]
 fn words_go_to_slots_and_back(rt: HostRuntime) -> Result<(), Fail> {
-    for (forest, picks, words, slots, back) in [
-        (THREE_LEAVES, "101", "5 / 7 8", " 7 5 8 /", " 5 / 7 8"),
-        (THREE_LEAVES, "0", "5 / 7 8", " 5 7 8 /", " 5 / 7 8"),
-        (THREE_LEAVES, "110", "5 / 7 8", " 7 8 5 /", " 5 / 7 8"),
-        (
-            OWN_ROOTS,
-            "",
-            "5 6 / 7 1 1 8 /",
-            " 6 5 8 / 7 /",
-            " 5 6 / 7 9 9 8 /",
-        ),
-        (
-            OWN_ROOTS,
-            "1",
-            "5 6 / 7 1 1 8 /",
-            " 6 8 5 / 7 /",
-            " 5 6 / 7 9 9 8 /",
-        ),
-    ] {
+    for (forest, picks, words, slots, back) in MOVED {
         let a = forest_of(rt.alloc(), forest)?;
-        let mut fabric = script(rt.alloc(), picks)?;
-        let slot_forest = multi(rt.alloc(), &a, &mut fabric)?;
-        let (there, again) = there_and_back(rt.alloc(), &slot_forest, words, &mut fabric)?;
-        assert_eq!(rt; there.as_str(), slots, "{forest} by {picks}");
-        assert_eq!(rt; again.as_str(), back, "{forest} by {picks}");
+        let (there, again) = there_and_back(rt.alloc(), &a, picks, words)?;
+        assert_eq!(rt; there.as_str(), *slots, "{forest} by {picks}");
+        assert_eq!(rt; again.as_str(), *back, "{forest} by {picks}");
     }
     Ok(())
 }
@@ -120,14 +129,15 @@ const BY_TURNS: &str = " 50 10 51 11 52 \
 53 54 55 56 57 58 59 60 61 62 63 64 65 66 67 \
 68 69 70 71 72 73 74 75 76 77 78 79 80 81 / /";
 
+/// Picks, and the words of the slots.
+const TURNS: &[(&str, &str)] = &[("", BY_RANK), ("21212", BY_TURNS)];
+
 #[test]
 fn a_root_with_sixty_four_leaves(rt: HostRuntime) -> Result<(), Fail> {
     let a = sixty_four_leaves(rt.alloc())?;
-    for (picks, slots) in [("", BY_RANK), ("21212", BY_TURNS)] {
-        let mut fabric = script(rt.alloc(), picks)?;
-        let slot_forest = multi(rt.alloc(), &a, &mut fabric)?;
-        let (there, again) = there_and_back(rt.alloc(), &slot_forest, WORDS, &mut fabric)?;
-        assert_eq!(rt; there.as_str(), slots, "by {picks}");
+    for (picks, slots) in TURNS {
+        let (there, again) = there_and_back(rt.alloc(), &a, picks, WORDS)?;
+        assert_eq!(rt; there.as_str(), *slots, "by {picks}");
         assert_eq!(rt; again.trim(), WORDS, "by {picks}");
     }
     Ok(())
